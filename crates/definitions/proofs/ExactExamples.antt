@@ -1,0 +1,12 @@
+-- The exact side on H, P and I, by computation from the definitions.
+use mathlib.Core.Path.{refl}
+use Rattle.definitions.proofs.Computing.{computing}
+use Rattle.definitions.specs.ExactExamples.{MatrixOfH, ExactTables}
+
+pub matrix-of-H : MatrixOfH
+unfolding computing
+matrix-of-H = (refl, refl, refl, refl)
+
+pub exact-tables : ExactTables
+unfolding computing
+exact-tables = ((refl, refl, refl, refl), (refl, refl, refl, refl), (refl, refl, refl, refl))

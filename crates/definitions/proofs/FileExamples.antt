@@ -1,0 +1,16 @@
+-- The sheet files, by computation from the definitions.
+use mathlib.Core.Path.{refl}
+use Rattle.definitions.proofs.Computing.{computing}
+use Rattle.definitions.specs.FileExamples.{DwellPrintsP, LongestFile, FileClaim, files}
+
+pub dwell-prints-P : DwellPrintsP
+unfolding computing
+dwell-prints-P = refl
+
+pub longest-file : LongestFile
+unfolding computing
+longest-file = refl
+
+pub files-hold : FileClaim files
+unfolding computing
+files-hold = refl

@@ -1,0 +1,4 @@
+pub mod Computing
+pub mod Starred
+pub mod ExactExamples
+pub mod FileExamples

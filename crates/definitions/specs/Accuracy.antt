@@ -1,0 +1,46 @@
+-- The accuracy rule, demand 3 (document 01, "The sheet and its two readings").
+use Prim.Native.Nat.{ℕ, _+_, _^_}
+use native.Mathlib.Nat.{one-le-pow}
+use mathlib.Core.Bool.{Bool}
+use mathlib.Core.List.{List}
+use lib.Dec.{T, lit<}
+use lib.IntN.{pos}
+use lib.ListN.{getD}
+use lib.Ieee.{Float, nan, binary64, fits}
+use Rattle.definitions.specs.Numbers.{finite}
+use Rattle.definitions.specs.Fractions.{Fraction, _≈_, _≼_, whole, _*ᶠ_, value}
+use Rattle.definitions.specs.Matrix.{matrix, Stage, everyStage, Inverse}
+use Rattle.definitions.specs.Sheet.{allowance}
+use Rattle.definitions.specs.Table.{entry}
+use Rattle.definitions.specs.Questions.{Accepted}
+
+-- (1 + 1/2^53)^E
+unfoldable pub growth : ℕ → Fraction
+growth E = record { num = pos ((2 ^ 53 + 1) ^ E); den = (2 ^ 53) ^ E; positive = one-le-pow E (2 ^ 53) (lit< tt) }
+
+-- "Neither x nor y is negative, x is at most y·(1 + 1/2^53)^E, and y is at most x·(1 + 1/2^53)^E", for a finite x.
+pub record Within (E : ℕ) (x : Float) (y : Fraction) : Type 0 where
+  pub number : T (finite x)
+  pub x-sign : whole 0 ≼ value x
+  pub y-sign : whole 0 ≼ y
+  pub upper : value x ≼ y *ᶠ growth E
+  pub lower : y ≼ value x *ᶠ growth E
+
+-- "There is such an X, and only one; and for every i and j", with x the entry (i, j) of the table and y that of X.
+pub record Accurate (n : ℕ) (on : ℕ → Bool) (E : ℕ) (A : ℕ → ℕ → Fraction) (x : ℕ → ℕ → Float) : Type 0 where
+  pub X : ℕ → ℕ → Fraction
+  pub inverse : Inverse n on A X
+  pub unique : (Y : ℕ → ℕ → Fraction) → Inverse n on A Y → (i j : ℕ) → Stage n on i → Stage n on j → X i j ≈ Y i j
+  pub within : (i j : ℕ) → Stage n on i → Stage n on j → Within E (x i j) (X i j)
+
+-- The numbers of a lent sheet are binary64 numbers.
+unfoldable pub Binary64 : List Float → Type 0
+Binary64 sheet = (i : ℕ) → T (fits binary64 (getD sheet i nan))
+
+-- "For every accepted sheet".
+unfoldable pub AccuracyRule : Type 0
+AccuracyRule =
+    (reading n : ℕ) (sheet : List Float)
+    → Binary64 sheet
+    → Accepted reading n sheet
+    → Accurate n everyStage (allowance reading n) (matrix reading n sheet) (entry reading n sheet)

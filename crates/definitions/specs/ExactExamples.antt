@@ -1,0 +1,36 @@
+-- The exact side on the sheets of document 01, "Sheets to try": H's matrix as printed there, and tables that are exact inverses.
+use Prim.Native.Nat.{ℕ}
+use mathlib.Core.List.{List, [], _∷_}
+use mathlib.Core.Bool.{cond}
+use lib.Dec.{eqb}
+use lib.Ieee.{Float, round, neg}
+use Rattle.definitions.specs.Fractions.{Fraction, _≈_, whole, -ᶠ_, _*ᶠ_, value, total}
+use Rattle.definitions.specs.Matrix.{matrix, everyStage}
+use Rattle.definitions.specs.Table.{entry}
+use Rattle.definitions.specs.Starred.{num, minus}
+
+-- H: "A is [4, −1 | −4, 2]".
+unfoldable pub sheetH : List Float
+sheetH = num 3 ∷ minus (num 1) ∷ minus (num 4) ∷ num 1 ∷ []
+
+unfoldable pub MatrixOfH : Type 0
+MatrixOfH =
+    (matrix 2 2 sheetH 0 0 ≈ whole 4)
+    × (matrix 2 2 sheetH 0 1 ≈ -ᶠ whole 1)
+    × (matrix 2 2 sheetH 1 0 ≈ -ᶠ whole 4)
+    × (matrix 2 2 sheetH 1 1 ≈ whole 2)
+
+-- A times the printed table is the identity: place (i, j) of two stages.
+unfoldable pub Product : ℕ → List Float → ℕ → ℕ → Type 0
+Product reading sheet i j =
+    total everyStage (λ k. matrix reading 2 sheet i k *ᶠ value (entry reading 2 sheet k j)) 2 ≈ cond (eqb i j) (whole 1) (whole 0)
+
+unfoldable pub ExactTable : ℕ → List Float → Type 0
+ExactTable reading sheet = Product reading sheet 0 0 × Product reading sheet 0 1 × Product reading sheet 1 0 × Product reading sheet 1 1
+
+-- P, H and I.
+unfoldable pub ExactTables : Type 0
+ExactTables =
+    ExactTable 1 (num 1 ∷ minus (num 1) ∷ minus (num 1) ∷ num 0 ∷ [])
+    × ExactTable 2 sheetH
+    × ExactTable 2 (num 2 ∷ num 0 ∷ minus (num 1) ∷ num 4 ∷ [])

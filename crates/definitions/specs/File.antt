@@ -1,0 +1,105 @@
+-- The sheet file and its reading (document 01, "The sheet file" and the file questions 11 to 14). A file is a list of bytes.
+use Prim.Native.Nat.{ℕ, zero, suc, _+_, _*_}
+use mathlib.Core.Bool.{Bool, _&&_, _||_}
+use mathlib.Core.List.{List, [], _∷_, _++_, map}
+use lib.Dec.{leb, eqb}
+use lib.ListN.{length, take, drop}
+use lib.Ieee.{Float, binary64, ofBits}
+use Rattle.definitions.specs.Questions.{Asked, ask, _then_, question1, question2, question4}
+use Rattle.definitions.specs.Services.{Answer, answer, filled}
+
+-- "All little-endian": the number in the first w bytes.
+unfoldable pub little : ℕ → List ℕ → ℕ
+little zero bytes = 0
+little (suc w) [] = 0
+little (suc w) (byte ∷ bytes) = byte + 256 * little w bytes
+
+-- "A record is a 4-byte length (payload bytes only), a 2-byte kind, the payload": the record that starts here, and what follows it.
+unfoldable pub recordLength : List ℕ → ℕ
+recordLength bytes = little 4 bytes
+
+unfoldable pub recordKind : List ℕ → ℕ
+recordKind bytes = little 2 (drop 4 bytes)
+
+unfoldable pub payload : List ℕ → List ℕ
+payload bytes = take (recordLength bytes) (drop 6 bytes)
+
+unfoldable pub rest : List ℕ → List ℕ
+rest bytes = drop (6 + recordLength bytes) bytes
+
+-- 11: "Are six bytes left for length and kind, and then as many as the length says?"
+unfoldable pub wholeRecord : List ℕ → Bool
+wholeRecord bytes = leb 6 (length bytes) && leb (6 + recordLength bytes) (length bytes)
+
+-- "Kind 1, head: 2-byte reading, 2-byte n."
+unfoldable pub headReading : List ℕ → ℕ
+headReading bytes = little 2 (payload bytes)
+
+unfoldable pub headStages : List ℕ → ℕ
+headStages bytes = little 2 (drop 2 (payload bytes))
+
+-- 12: "Head: kind 1, length 4, reading 1 or 2, n from 1 to 32?"
+unfoldable pub goodHead : List ℕ → Bool
+goodHead bytes =
+    eqb (recordKind bytes) 1
+    && eqb (recordLength bytes) 4
+    && (eqb (headReading bytes) 1 || eqb (headReading bytes) 2)
+    && leb 1 (headStages bytes)
+    && leb (headStages bytes) 32
+
+-- 13: "Row: kind 2, length 2 + 8n, and the row number due?"
+unfoldable pub goodRow : ℕ → ℕ → List ℕ → Bool
+goodRow n due bytes = eqb (recordKind bytes) 2 && eqb (recordLength bytes) (2 + 8 * n) && eqb (little 2 (payload bytes)) due
+
+-- Record by record: m rows from the one due, then 14: "After row n, are no bytes left?"
+unfoldable pub rowQuestions : ℕ → ℕ → ℕ → List ℕ → Asked
+rowQuestions n due zero bytes = ask (eqb (length bytes) 0) 14 0 0
+rowQuestions n due (suc m) bytes =
+    ask (wholeRecord bytes) 11 due 0 then ask (goodRow n due bytes) 13 due 0 then rowQuestions n (suc due) m (rest bytes)
+
+-- File reading is asked 11 to 14 and then 1, 2 and 4; `room` is the length of the lent area.
+unfoldable pub fileQuestions : List ℕ → ℕ → Asked
+fileQuestions bytes room =
+    ask (wholeRecord bytes) 11 0 0
+    then ask (goodHead bytes) 12 0 0
+    then rowQuestions (headStages bytes) 1 (headStages bytes) (rest bytes)
+    then question1 (headReading bytes)
+    then question2 (headStages bytes)
+    then question4 (headStages bytes) room
+
+-- "Kind 2, row: 2-byte row number, n numbers of 8 bytes": m words of 8 bytes, and those of m rows.
+unfoldable pub words : ℕ → List ℕ → List ℕ
+words zero bytes = []
+words (suc m) bytes = little 8 bytes ∷ words m (drop 8 bytes)
+
+unfoldable pub rowWords : ℕ → ℕ → List ℕ → List ℕ
+rowWords n zero bytes = []
+rowWords n (suc m) bytes = words n (drop 2 (payload bytes)) ++ rowWords n m (rest bytes)
+
+unfoldable pub fileWords : List ℕ → List ℕ
+fileWords bytes = rowWords (headStages bytes) (headStages bytes) (rest bytes)
+
+-- "The call hands over n and the reading."
+pub record Head : Type 0 where
+  pub reading : ℕ
+  pub n : ℕ
+
+unfoldable pub fileAnswer : List ℕ → ℕ → Answer Head
+fileAnswer bytes room = answer (fileQuestions bytes room) (record { reading = headReading bytes; n = headStages bytes })
+
+-- "Numbers are copied bit for bit, places past n × n keep theirs": on an area of 64-bit words, and on an area of numbers.
+unfoldable pub fileWordArea : List ℕ → List ℕ → List ℕ
+fileWordArea bytes area = let new = fileWords bytes in filled (fileQuestions bytes (length area)) new area
+
+unfoldable pub fileNumbers : List ℕ → List Float
+fileNumbers bytes = map (λ word. ofBits binary64 word) (fileWords bytes)
+
+unfoldable pub fileNumberArea : List ℕ → List Float → List Float
+fileNumberArea bytes area = let new = fileNumbers bytes in filled (fileQuestions bytes (length area)) new area
+
+-- The length of the file of n stages; "the longest file is 8,458 bytes".
+unfoldable pub fileLength : ℕ → ℕ
+fileLength n = 6 + 4 + n * (6 + 2 + 8 * n)
+
+unfoldable pub longestFile : ℕ
+longestFile = fileLength 32

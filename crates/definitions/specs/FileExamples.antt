@@ -1,0 +1,73 @@
+-- Sheet files: the file of sheet P with what dwell prints for it (document 01, "The sheet file"), and damaged files.
+use Prim.Native.Nat.{ℕ, _+_}
+use mathlib.Core.List.{List, [], _∷_, _++_, map}
+use mathlib.Core.Path.{_≡_}
+use Rattle.definitions.specs.Services.{Answer, given, refused}
+use Rattle.definitions.specs.File.{Head, fileAnswer, longestFile}
+use Rattle.definitions.specs.Dwell.{text, dwellText}
+
+-- A record from its length, kind and payload, each length and kind below 256.
+abbrev pub fileRecord : ℕ → ℕ → List ℕ → List ℕ
+fileRecord length kind payload = (length ∷ 0 ∷ 0 ∷ 0 ∷ kind ∷ 0 ∷ []) ++ payload
+
+-- 1, minus 1 and plus zero in 8 bytes.
+abbrev pub one : List ℕ
+one = 0 ∷ 0 ∷ 0 ∷ 0 ∷ 0 ∷ 0 ∷ 240 ∷ 63 ∷ []
+
+abbrev pub minusOne : List ℕ
+minusOne = 0 ∷ 0 ∷ 0 ∷ 0 ∷ 0 ∷ 0 ∷ 240 ∷ 191 ∷ []
+
+abbrev pub nought : List ℕ
+nought = 0 ∷ 0 ∷ 0 ∷ 0 ∷ 0 ∷ 0 ∷ 0 ∷ 0 ∷ []
+
+-- The file of P: [1, −1 | −1, 0], reading 1.
+abbrev pub headOfP : List ℕ
+headOfP = fileRecord 4 1 (1 ∷ 0 ∷ 2 ∷ 0 ∷ [])
+
+abbrev pub row1OfP : List ℕ
+row1OfP = fileRecord 18 2 ((1 ∷ 0 ∷ []) ++ one ++ minusOne)
+
+abbrev pub row2OfP : List ℕ
+row2OfP = fileRecord 18 2 ((2 ∷ 0 ∷ []) ++ minusOne ++ nought)
+
+unfoldable pub DwellPrintsP : Type 0
+DwellPrintsP =
+    dwellText (headOfP ++ row1OfP ++ row2OfP)
+    ≡ text "seconds 2 32\n1 1 3ff0000000000000\n1 2 3ff0000000000000\n2 1 3ff0000000000000\n2 2 4000000000000000\n"
+
+-- "The longest file is 8,458 bytes."
+unfoldable pub LongestFile : Type 0
+LongestFile = longestFile ≡ 8458
+
+-- A file, the room lent, and what reading it answers.
+pub record FileLine : Type 0 where
+  pub bytes : List ℕ
+  pub room : ℕ
+  pub expected : Answer Head
+
+abbrev pub file : List ℕ → ℕ → Answer Head → FileLine
+file bytes room expected = record { bytes = bytes; room = room; expected = expected }
+
+unfoldable pub FileClaim : List FileLine → Type 0
+FileClaim lines = map (λ line. fileAnswer (line .bytes) (line .room)) lines ≡ map (λ line. line .expected) lines
+
+unfoldable pub files : List FileLine
+files =
+    file (headOfP ++ row1OfP ++ row2OfP) 4 (given (record { reading = 1; n = 2 }))
+    -- nothing; five bytes; a payload cut short
+    ∷ file [] 4 (refused 11 0 0)
+    ∷ file (4 ∷ 0 ∷ 0 ∷ 0 ∷ 1 ∷ []) 4 (refused 11 0 0)
+    ∷ file (fileRecord 4 1 (1 ∷ 0 ∷ 2 ∷ [])) 4 (refused 11 0 0)
+    -- a head with reading 3, with n = 33, and of another length
+    ∷ file (fileRecord 4 1 (3 ∷ 0 ∷ 2 ∷ 0 ∷ [])) 4 (refused 12 0 0)
+    ∷ file (fileRecord 4 1 (1 ∷ 0 ∷ 33 ∷ 0 ∷ [])) 4 (refused 12 0 0)
+    ∷ file (fileRecord 6 1 (1 ∷ 0 ∷ 2 ∷ 0 ∷ 0 ∷ 0 ∷ [])) 4 (refused 12 0 0)
+    -- no row 1; a row of length 0; a bad row 1 before a cut row 2; row 2 cut
+    ∷ file headOfP 4 (refused 11 1 0)
+    ∷ file (headOfP ++ fileRecord 0 2 []) 4 (refused 13 1 0)
+    ∷ file (headOfP ++ row2OfP ++ (18 ∷ [])) 4 (refused 13 1 0)
+    ∷ file (headOfP ++ row1OfP ++ (18 ∷ [])) 4 (refused 11 2 0)
+    -- one byte more, which is asked before the room; too little room
+    ∷ file (headOfP ++ row1OfP ++ row2OfP ++ (0 ∷ [])) 3 (refused 14 0 0)
+    ∷ file (headOfP ++ row1OfP ++ row2OfP) 3 (refused 4 0 0)
+    ∷ []

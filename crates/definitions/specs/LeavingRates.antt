@@ -1,0 +1,107 @@
+-- Steps for leaving rates (document 01, the section of that name; source 000, Proposition 2.4), on r stages in compact order.
+-- Stage k of the paper is k - 1 here, so stages run from 0 to r - 1.
+use Prim.Native.Nat.{ℕ, zero, suc, _+_, _-_}
+use mathlib.Core.Bool.{Bool, true, false, _&&_, _||_, cond}
+use lib.Dec.{leb, eqb}
+use lib.Ieee.{Float, add, mul, div}
+use Rattle.definitions.specs.Numbers.{_⊕_, _⊗_, _⊘_, 0·0, 1·0, divInRange, addProductInRange, sum, sumInRange, all}
+use Rattle.definitions.specs.Tables.{stored, storedTable}
+
+-- Sizes t_ij and leaving rates s_i.
+pub record System : Type 0 where
+  pub t : ℕ → ℕ → Float
+  pub s : ℕ → Float
+
+-- "Pivot p_k: start with s_k, add t_kj for j = k+1 to n, rising."
+unfoldable pub pivot : ℕ → System → ℕ → Float
+pivot r a k = sum (a .s k) (a .t k) (suc k) (r - suc k)
+
+-- "m = t_ik / p_k"
+unfoldable pub multiplier : ℕ → System → ℕ → ℕ → Float
+multiplier r a k i = a .t i k ⊘ pivot r a k
+
+-- "s_i becomes s_i + m·s_k. For j = k+1 to n, j ≠ i, t_ij becomes t_ij + m·t_kj."
+-- Only places i, j > k with j ≠ i are read again.
+unfoldable pub eliminate : ℕ → System → ℕ → System
+eliminate r a k =
+    record {
+      t = storedTable 0·0 r (λ i j. a .t i j ⊕ multiplier r a k i ⊗ a .t k j);
+      s = stored 0·0 r (λ i. a .s i ⊕ multiplier r a k i ⊗ a .s k);
+    }
+
+-- The system as stage k begins: after the downward stages before k.
+unfoldable pub begun : ℕ → System → ℕ → System
+begun r start zero = start
+begun r start (suc k) = let a = begun r start k in eliminate r a k
+
+unfoldable pub downward : ℕ → System → ℕ → System
+downward r start = stored start r (begun r start)
+
+-- Over the systems as the stages begin: at k is `downward r start k`.
+module _ (r : ℕ) (at : ℕ → System) where
+  -- Stage k's pivot p_k, and row k's sizes t_kj, which later stages leave alone.
+  unfoldable pub p : ℕ → Float
+  p k = pivot r (at k) k
+
+  unfoldable pub u : ℕ → ℕ → Float
+  u k j = at k .t k j
+
+  -- The multiplier of row i at stage k: downward for i > k, upward for i < k.
+  unfoldable pub m↓ : ℕ → ℕ → Float
+  m↓ k i = multiplier r (at k) k i
+
+  unfoldable pub m↑ : ℕ → ℕ → Float
+  m↑ k i = u i k ⊘ p k
+
+  -- Column j of b, which starts as the identity, as stage k begins: "for j = 1 to k, b_ij becomes b_ij + m·b_kj".
+  unfoldable pub b↓ : ℕ → ℕ → ℕ → Float
+  b↓ j zero = λ i. cond (eqb i j) 1·0 0·0
+  b↓ j (suc k) = let b = b↓ j k in cond (leb j k) (stored 0·0 r (λ i. b i ⊕ m↓ k i ⊗ b k)) b
+
+  -- Column j of b after q upward stages, from r - 1 down to r - q: "for i = 1 to k−1, m = t_ik / p_k; b_ij becomes b_ij + m·b_kj".
+  unfoldable pub b↑ : ℕ → ℕ → ℕ → Float
+  b↑ j zero = stored 0·0 r (λ i. b↓ j i i)
+  b↑ j (suc q) = let b = b↑ j q in stored 0·0 r (λ i. b i ⊕ m↑ (r - suc q) i ⊗ b (r - suc q))
+
+  -- Row i is touched by the upward stages above i alone.
+  unfoldable pub solved : ℕ → ℕ → Float
+  solved j i = b↑ j (r - suc i) i
+
+  -- "Last, x_ij = b_ij / p_i."
+  unfoldable pub quotient : ℕ → ℕ → Float
+  quotient i j = solved j i ⊘ p i
+
+  -- Every step in range (question 10). First the steps that serve every column: row i at stage k;
+  unfoldable pub rowInRange : ℕ → ℕ → Bool
+  rowInRange k i =
+      divInRange (at k .t i k) (p k)
+      && addProductInRange (at k .s i) (m↓ k i) (at k .s k)
+      && all (λ j. eqb i j || addProductInRange (at k .t i j) (m↓ k i) (at k .t k j)) (suc k) (r - suc k)
+
+  -- the pivot of stage k and its rows;
+  unfoldable pub stageInRange : ℕ → Bool
+  stageInRange k = sumInRange (at k .s k) (at k .t k) (suc k) (r - suc k) && all (rowInRange k) (suc k) (r - suc k)
+
+  -- the stages before k; and all of these with the upward multipliers.
+  unfoldable pub sharedBefore : ℕ → Bool
+  sharedBefore k = all stageInRange 0 k
+
+  unfoldable pub shared : Bool
+  shared = sharedBefore r && all (λ k. all (λ i. divInRange (u i k) (p k)) 0 k) 0 r
+
+  -- Then the steps of column j: in the downward stages before k;
+  unfoldable pub columnBefore : ℕ → ℕ → Bool
+  columnBefore j k =
+      all (λ l. let b = b↓ j l in all (λ i. addProductInRange (b i) (m↓ l i) (b l)) (suc l) (r - suc l)) j (k - j)
+
+  -- in the first q upward stages;
+  unfoldable pub columnUpward : ℕ → ℕ → Bool
+  columnUpward j q =
+      all (λ l. let b = b↑ j l in all (λ i. addProductInRange (b i) (m↑ (r - suc l) i) (b (r - suc l))) 0 (r - suc l)) 0 q
+
+  -- and all of these with the last division.
+  unfoldable pub column : ℕ → Bool
+  column j = columnBefore j r && columnUpward j r && all (λ i. divInRange (solved j i) (p i)) 0 r
+
+  unfoldable pub inRange : Bool
+  inRange = shared && all column 0 r

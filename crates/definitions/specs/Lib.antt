@@ -1,0 +1,16 @@
+pub mod Numbers
+pub mod Tables
+pub mod LeavingRates
+pub mod Margins
+pub mod Sheet
+pub mod Table
+pub mod Questions
+pub mod Services
+pub mod Fractions
+pub mod Matrix
+pub mod Accuracy
+pub mod File
+pub mod Dwell
+pub mod Starred
+pub mod ExactExamples
+pub mod FileExamples

@@ -1,0 +1,29 @@
+-- A flow sheet of n stages (document 01, "The sheet and its two readings"): n × n numbers, row by row.
+-- Stage i of the paper is i - 1 here.
+use Prim.Native.Nat.{ℕ, _+_, _*_, _^_}
+use mathlib.Core.Bool.{Bool, cond}
+use mathlib.Core.List.{List}
+use lib.Dec.{eqb}
+use lib.ListN.{getD}
+use lib.Ieee.{Float, nan, add, sub, neg}
+use Rattle.definitions.specs.Numbers.{_⊕_, _⊖_, 0·0}
+use Rattle.definitions.specs.LeavingRates.{System}
+
+-- The number at place (i, j).
+abbrev pub place : ℕ → List Float → ℕ → ℕ → Float
+place n sheet i j = getD sheet (i * n + j) nan
+
+-- "Write t_ij for its size": off the diagonal the place holds minus the rate. "A zero of either sign counts as plus zero."
+unfoldable pub size : ℕ → List Float → ℕ → ℕ → Float
+size n sheet i j = 0·0 ⊖ place n sheet i j
+
+-- The diagonal's parameter: the leaving rate s_i (reading 1) or the margin d_i (reading 2), either zero as plus zero.
+unfoldable pub diagonal : ℕ → List Float → ℕ → Float
+diagonal n sheet i = place n sheet i i ⊕ 0·0
+
+unfoldable pub system : ℕ → List Float → System
+system n sheet = record { t = size n sheet; s = diagonal n sheet }
+
+-- The allowance E of a table: 4n³ for reading 1, 12n³ for reading 2.
+unfoldable pub allowance : ℕ → ℕ → ℕ
+allowance reading n = cond (eqb reading 1) 4 12 * n ^ 3

@@ -1,0 +1,1 @@
+// Exact theory: statements in specs/, proofs in proofs/. This crate has no functions.

@@ -1,0 +1,1273 @@
+#!/usr/bin/env python3
+"""The independent reference of the dwell-times project.
+
+Everything here is written from document 01 ("Dwell times from a flow sheet") and source document 000
+alone.  It holds the steps with binary64 numbers and their range test, the questions, the three
+services, the sheet file, the dwell program, the exact inverse with the accuracy rule, random sheets,
+and a self-test.  A Python float is a binary64 number and each of +, *, / is one rounding to nearest,
+ties to even; nothing here uses a fused or compensated operation.  Stages are numbered from 0 in the
+code and from 1 in every answer.
+"""
+from __future__ import annotations
+
+import math
+import random
+import re
+import struct
+import sys
+import time
+from dataclasses import dataclass
+from fractions import Fraction
+from typing import Callable, Iterable, Optional, Sequence, Union
+
+LIMIT = 32                      # the most stages of a sheet
+SMALLEST_NORMAL = 2.0 ** -1022  # products and quotients of nonzero numbers stay above it
+LARGEST = sys.float_info.max
+LONGEST_FILE = 8458
+LEAVING_RATES, MARGINS = 1, 2
+
+Row = list[float]
+Matrix = list[Row]
+
+
+# ==== Answers ====
+
+@dataclass(frozen=True)
+class Refused:
+    """A no to a question: its number, a row and a column, 0 and 0 unless stated (01, "The questions")."""
+    number: int
+    row: int = 0
+    column: int = 0
+
+
+@dataclass(frozen=True)
+class Table:
+    """The whole table, row by row, with its allowance."""
+    n: int
+    allowance: int
+    entries: list[float]
+
+
+@dataclass(frozen=True)
+class Seconds:
+    """One entry of the table."""
+    value: float
+
+
+@dataclass(frozen=True)
+class Loaded:
+    """A sheet read from a file; the words keep every bit of its numbers, NaN patterns included."""
+    reading: int
+    n: int
+    words: list[int]
+
+    @property
+    def numbers(self) -> list[float]:
+        return [number_of(word) for word in self.words]
+
+
+def bits_of(number: float) -> int:
+    """The 64 bits of a number."""
+    return struct.unpack("<Q", struct.pack("<d", number))[0]
+
+
+def number_of(word: int) -> float:
+    """The number with these 64 bits."""
+    return struct.unpack("<d", struct.pack("<Q", word))[0]
+
+
+# ==== One step: one rounding and its range test (01, question 10) ====
+
+class OutOfRange(Exception):
+    """Some step left the range.  Question 10 is no exactly when this is raised, wherever that is."""
+
+
+def checked(result: float, above_smallest: bool) -> float:
+    """The rounded result of a step, which must be finite and, where asked, above 2^-1022."""
+    if not math.isfinite(result) or (above_smallest and not result > SMALLEST_NORMAL):
+        raise OutOfRange
+    return result
+
+
+def add(x: float, y: float) -> float:
+    """A sum, rounded once."""
+    return checked(x + y, False)
+
+
+def mul(x: float, y: float) -> float:
+    """A product, rounded once."""
+    return checked(x * y, x != 0.0 and y != 0.0)
+
+
+def div(x: float, y: float) -> float:
+    """A quotient, rounded once; y is a pivot or an a_i and never zero."""
+    return checked(x / y, x != 0.0)
+
+
+def running_sum(start: float, terms: Iterable[float]) -> float:
+    """Adds the terms one by one, in their order, to the start."""
+    total = start
+    for term in terms:
+        total = add(total, term)
+    return total
+
+
+# ==== Steps for leaving rates, on r stages in compact order (01, "Steps for leaving rates") ====
+
+@dataclass(frozen=True)
+class Elimination:
+    """What the steps that serve every column leave behind.
+
+    multipliers[k][i] is the downward m of stage k and row i where i > k, the upward one where i < k.
+    """
+    pivots: list[float]
+    multipliers: Matrix
+
+
+def pivot(s_k: float, later_sizes: Sequence[float]) -> float:
+    """p_k: start with s_k, add t_kj for j = k+1 to n, rising."""
+    return running_sum(s_k, later_sizes)
+
+
+def eliminate(sizes: Matrix, leaving: Row) -> Elimination:
+    """The steps that serve every column: pivots, multipliers, s and t."""
+    r = len(leaving)
+    t = [list(row) for row in sizes]
+    s = list(leaving)
+    p: list[float] = []
+    m = [[0.0] * r for _ in range(r)]
+    for k in range(r):
+        p.append(pivot(s[k], t[k][k + 1:]))
+        for i in range(k + 1, r):
+            m[k][i] = div(t[i][k], p[k])
+            s[i] = add(s[i], mul(m[k][i], s[k]))
+            for j in range(k + 1, r):
+                if j != i:
+                    t[i][j] = add(t[i][j], mul(m[k][i], t[k][j]))
+    for k in range(r - 1, 0, -1):
+        for i in range(k):
+            m[k][i] = div(t[i][k], p[k])
+    return Elimination(p, m)
+
+
+def solve_column(elimination: Elimination, j: int) -> list[float]:
+    """The steps of column j of b, which starts as column j of the identity, and its last divisions."""
+    p, m = elimination.pivots, elimination.multipliers
+    r = len(p)
+    b = [1.0 if i == j else 0.0 for i in range(r)]
+    for k in range(j, r):  # stage k touches the columns 1 to k alone
+        for i in range(k + 1, r):
+            b[i] = add(b[i], mul(m[k][i], b[k]))
+    for k in range(r - 1, 0, -1):
+        for i in range(k):
+            b[i] = add(b[i], mul(m[k][i], b[k]))
+    return [div(b[i], p[i]) for i in range(r)]
+
+
+def invert_leaving_rates(sizes: Matrix, leaving: Row) -> Matrix:
+    """The whole of the steps: x_ij = b_ij / p_i.  OutOfRange where some step leaves the range."""
+    elimination = eliminate(sizes, leaving)
+    columns = [solve_column(elimination, j) for j in range(len(leaving))]
+    return [list(row) for row in zip(*columns)]
+
+
+@dataclass(frozen=True)
+class RangeFacts:
+    """Whether the steps that serve every column are in range, and those of each column by themselves."""
+    shared: bool
+    columns: list[bool]
+
+
+def in_range(steps: Callable[[], object]) -> bool:
+    """Whether these steps stay in range."""
+    try:
+        steps()
+    except OutOfRange:
+        return False
+    return True
+
+
+def range_facts(sizes: Matrix, leaving: Row) -> RangeFacts:
+    """The two kinds of range facts of the steps for leaving rates, kept apart."""
+    try:
+        elimination = eliminate(sizes, leaving)
+    except OutOfRange:
+        return RangeFacts(False, [])
+    return RangeFacts(True, [in_range(lambda: solve_column(elimination, j)) for j in range(len(leaving))])
+
+
+# ==== Steps for margins (01, "Steps for margins"; 000, formulas (1) and (2), Theorem 3.2) ====
+
+def invert_margins(sizes: Matrix, margins: Row) -> Matrix:
+    """The whole of the steps for margins.  OutOfRange where some step leaves the range."""
+    h, a, k = nekrasov_sums(sizes, margins)
+    kept = [i for i in range(len(margins)) if h[i] != 0.0]
+    x = [[0.0] * len(margins) for _ in margins]
+    kept_sizes, kept_leaving = kept_system(sizes, margins, a, k, kept)
+    y = invert_leaving_rates(kept_sizes, kept_leaving)
+    for row, i in enumerate(kept):
+        for column, j in enumerate(kept):
+            x[i][j] = mul(k[i], y[row][column])
+    join_stages_not_kept(x, sizes, a, kept)
+    return x
+
+
+def nekrasov_sums(t: Matrix, d: Row) -> tuple[Row, Row, Row]:
+    """For i rising: h_i, a_i = d_i + h_i and k_i = h_i / a_i; the sums start at plus zero."""
+    n = len(d)
+    h: Row = []
+    a: Row = []
+    k: Row = []
+    for i in range(n):
+        terms = (mul(t[i][j], k[j]) if j < i else t[i][j] for j in range(n) if j != i)
+        h.append(running_sum(0.0, terms))
+        a.append(add(d[i], h[i]))
+        k.append(div(h[i], a[i]))
+    return h, a, k
+
+
+def kept_system(t: Matrix, d: Row, a: Row, k: Row, kept: list[int]) -> tuple[Matrix, Row]:
+    """New off-diagonal sizes t_ij·k_j of the kept stages; new leaving rates over every j > i, kept or not."""
+    new_sizes = [[mul(t[i][j], k[j]) if j != i else 0.0 for j in kept] for i in kept]
+    new_leaving = [running_sum(0.0, (mul(t[i][j], div(d[j], a[j])) for j in range(i + 1, len(d))))
+                   for i in kept]
+    return new_sizes, new_leaving
+
+
+def join_stages_not_kept(x: Matrix, t: Matrix, a: Row, kept: list[int]) -> None:
+    """Each stage not kept joins the known ones, from the highest down; sums over known j rise in j."""
+    known = list(kept)
+    for k in range(len(a) - 1, -1, -1):
+        if k in kept:
+            continue
+        for i in known:
+            x[i][k] = running_sum(0.0, (mul(x[i][j], div(t[j][k], a[k])) for j in known))
+            x[k][i] = 0.0
+        x[k][k] = div(1.0, a[k])
+        known = sorted(known + [k])
+
+
+# ==== The sheet and the questions (01, "The sheet and its two readings", "The questions, in order") ====
+
+def sheet_parts(n: int, sheet: Sequence[float]) -> tuple[Matrix, Row]:
+    """The sizes t_ij (zero on the diagonal) and the diagonal parameters; either zero becomes plus zero."""
+    sizes = [[0.0 - sheet[i * n + j] if j != i else 0.0 for j in range(n)] for i in range(n)]
+    return sizes, [sheet[i * n + i] + 0.0 for i in range(n)]
+
+
+def allowance(reading: int, n: int) -> int:
+    """4n³ for leaving rates, 12n³ for margins."""
+    return (4 if reading == LEAVING_RATES else 12) * n ** 3
+
+
+def ask_reading(reading: int) -> Optional[Refused]:
+    """Question 1: is the reading 1 or 2?"""
+    return None if reading in (LEAVING_RATES, MARGINS) else Refused(1)
+
+
+def ask_size(n: int) -> Optional[Refused]:
+    """Question 2: is n from 1 to 32?  Nothing is formed from n before it is asked."""
+    return None if 1 <= n <= LIMIT else Refused(2)
+
+
+def ask_sheet_length(n: int, sheet: Sequence[float]) -> Optional[Refused]:
+    """Question 3: does the sheet hold exactly n × n numbers?"""
+    return None if len(sheet) == n * n else Refused(3)
+
+
+def ask_area(n: int, area_length: int) -> Optional[Refused]:
+    """Question 4: does the lent area hold at least n × n numbers?"""
+    return None if area_length >= n * n else Refused(4)
+
+
+def ask_stages(n: int, i: int, j: int) -> Optional[Refused]:
+    """Question 5: are both stages from 1 to n?"""
+    return None if 1 <= i <= n and 1 <= j <= n else Refused(5)
+
+
+def first_bad_place(number: int, n: int, sheet: Sequence[float],
+                    good: Callable[[float, bool], bool]) -> Optional[Refused]:
+    """Searches row by row for a number that is not good, given whether it stands on the diagonal."""
+    for i in range(n):
+        for j in range(n):
+            if not good(sheet[i * n + j], i == j):
+                return Refused(number, i + 1, j + 1)
+    return None
+
+
+def ask_finite(n: int, sheet: Sequence[float]) -> Optional[Refused]:
+    """Question 6: is every number finite?"""
+    return first_bad_place(6, n, sheet, lambda x, _: math.isfinite(x))
+
+
+def ask_signs(reading: int, n: int, sheet: Sequence[float]) -> Optional[Refused]:
+    """Question 7: off-diagonals zero or negative, diagonals zero or positive (reading 1) or positive (reading 2)?"""
+    def good(x: float, diagonal: bool) -> bool:
+        if not diagonal:
+            return x <= 0.0
+        return x >= 0.0 if reading == LEAVING_RATES else x > 0.0
+    return first_bad_place(7, n, sheet, good)
+
+
+def ask_normal(n: int, sheet: Sequence[float]) -> Optional[Refused]:
+    """Question 8: is every number zero or at least 2^-1022 in size?"""
+    return first_bad_place(8, n, sheet, lambda x, _: x == 0.0 or abs(x) >= SMALLEST_NORMAL)
+
+
+def ask_trapped(reading: int, n: int, sheet: Sequence[float]) -> Optional[Refused]:
+    """Question 9, reading 1 alone: marks stages that get out until no more are found; the lowest other is
+    trapped."""
+    if reading != LEAVING_RATES:
+        return None
+    sizes, leaving = sheet_parts(n, sheet)
+    marked = [s > 0.0 for s in leaving]
+    count = -1
+    while sum(marked) != count:
+        count = sum(marked)
+        marked = [marked[i] or any(sizes[i][j] != 0.0 and marked[j] for j in range(n)) for i in range(n)]
+    return None if all(marked) else Refused(9, marked.index(False) + 1)
+
+
+def ask_numbers(reading: int, n: int, sheet: Sequence[float]) -> Optional[Refused]:
+    """Questions 6 to 9, each asked of the whole sheet before the next."""
+    return (ask_finite(n, sheet) or ask_signs(reading, n, sheet) or ask_normal(n, sheet)
+            or ask_trapped(reading, n, sheet))
+
+
+# ==== The services ====
+
+def invert(reading: int, n: int, sheet: Sequence[float]) -> Union[Matrix, Refused]:
+    """The table by its reading's steps, or question 10's no."""
+    sizes, diagonal = sheet_parts(n, sheet)
+    steps = invert_leaving_rates if reading == LEAVING_RATES else invert_margins
+    try:
+        return steps(sizes, diagonal)
+    except OutOfRange:
+        return Refused(10)
+
+
+def table(reading: int, n: int, sheet: Sequence[float], area_length: int) -> Union[Table, Refused]:
+    """The whole table: questions 1, 2, 3, 4, 6, 7, 8, 9, 10."""
+    refusal = (ask_reading(reading) or ask_size(n) or ask_sheet_length(n, sheet)
+               or ask_area(n, area_length) or ask_numbers(reading, n, sheet))
+    if refusal:
+        return refusal
+    x = invert(reading, n, sheet)
+    if isinstance(x, Refused):
+        return x
+    return Table(n, allowance(reading, n), [number for row in x for number in row])
+
+
+def entry(reading: int, n: int, sheet: Sequence[float], i: int, j: int) -> Union[Seconds, Refused]:
+    """One entry: questions 1, 2, 3, 5, 6, 7, 8, 9, 10; stages i and j are numbered from 1."""
+    refusal = (ask_reading(reading) or ask_size(n) or ask_sheet_length(n, sheet)
+               or ask_stages(n, i, j) or ask_numbers(reading, n, sheet))
+    if refusal:
+        return refusal
+    x = invert(reading, n, sheet)
+    return x if isinstance(x, Refused) else Seconds(x[i - 1][j - 1])
+
+
+# ==== The sheet file and the dwell program (01, "The sheet file") ====
+
+HEAD, SHEET_ROW = 1, 2  # kinds of records
+
+
+def record(kind: int, payload: bytes) -> bytes:
+    """A record: 4-byte length of the payload, 2-byte kind, the payload, little-endian."""
+    return struct.pack("<IH", len(payload), kind) + payload
+
+
+def make_file_words(reading: int, n: int, words: Sequence[int]) -> bytes:
+    """The sheet file of n rows of 64-bit words."""
+    rows = [struct.pack(f"<H{n}Q", i + 1, *words[i * n:(i + 1) * n]) for i in range(n)]
+    return record(HEAD, struct.pack("<HH", reading, n)) + b"".join(record(SHEET_ROW, row) for row in rows)
+
+
+def make_file(reading: int, n: int, numbers: Sequence[float]) -> bytes:
+    """The sheet file of n rows of numbers."""
+    return make_file_words(reading, n, [bits_of(x) for x in numbers])
+
+
+def read_record(data: bytes, at: int) -> Optional[tuple[int, bytes, int]]:
+    """Kind, payload and end of the record that starts here; None where bytes are missing (11)."""
+    if len(data) - at < 6:
+        return None
+    length, kind = struct.unpack_from("<IH", data, at)
+    end = at + 6 + length
+    return None if end > len(data) else (kind, data[at + 6:end], end)
+
+
+def load(data: bytes, area_length: int) -> Union[Loaded, Refused]:
+    """File reading: 11 to 14 record by record, then questions 1, 2 and 4."""
+    head = read_record(data, 0)
+    if head is None:
+        return Refused(11, 0)
+    kind, payload, at = head
+    if kind != HEAD or len(payload) != 4:
+        return Refused(12)
+    reading, n = struct.unpack("<HH", payload)
+    if reading not in (LEAVING_RATES, MARGINS) or not 1 <= n <= LIMIT:
+        return Refused(12)
+    words: list[int] = []
+    for row in range(1, n + 1):
+        due = read_record(data, at)
+        if due is None:
+            return Refused(11, row)
+        kind, payload, at = due
+        if kind != SHEET_ROW or len(payload) != 2 + 8 * n or struct.unpack_from("<H", payload)[0] != row:
+            return Refused(13, row)
+        words += struct.unpack_from(f"<{n}Q", payload, 2)
+    if at != len(data):
+        return Refused(14)
+    return ask_reading(reading) or ask_size(n) or ask_area(n, area_length) or Loaded(reading, n, words)
+
+
+def table_of_stream(stream: bytes) -> Union[tuple[Loaded, Table], Refused]:
+    """The sheet and table of a file; at most one byte more than the longest file is judged."""
+    sheet = load(stream[:LONGEST_FILE + 1], LIMIT * LIMIT)
+    if isinstance(sheet, Refused):
+        return sheet
+    answer = table(sheet.reading, sheet.n, sheet.numbers, LIMIT * LIMIT)
+    return answer if isinstance(answer, Refused) else (sheet, answer)
+
+
+def dwell(stream: bytes) -> str:
+    """What the dwell program prints, each line ended by a newline."""
+    found = table_of_stream(stream)
+    if isinstance(found, Refused):
+        return refused_line(found)
+    answer = found[1]
+    lines = [f"seconds {answer.n} {answer.allowance}\n"]
+    for place, x in enumerate(answer.entries):
+        lines.append(f"{place // answer.n + 1} {place % answer.n + 1} {bits_of(x):016x}\n")
+    return "".join(lines)
+
+
+def refused_line(refusal: Refused) -> str:
+    """The line that the dwell program prints for a refusal."""
+    return f"refused {refusal.number} {refusal.row} {refusal.column}\n"
+
+
+# ==== The exact side (01, "The sheet and its two readings", the accuracy rule) ====
+
+Quotient = tuple[int, int]      # numerator and positive denominator, compared by multiplying across
+Inverse = list[list[Quotient]]
+FractionMatrix = list[list[Fraction]]
+EXACT_MARGINS_LIMIT = 6         # the exact a_ii of margins double their digits with every stage
+
+
+def exact_diagonal(reading: int, t: FractionMatrix, diagonal: list[Fraction],
+                   trim: Callable[[Fraction], Fraction]) -> list[Fraction]:
+    """The exact a_ii; for margins every k_i = h_i / a_ii is trimmed, which the exact matrix does not do."""
+    a: list[Fraction] = []
+    k: list[Fraction] = []
+    for i, parameter in enumerate(diagonal):
+        if reading == LEAVING_RATES:
+            a.append(parameter + sum(t[i]))
+            continue
+        h = sum((t[i][j] * k[j] for j in range(i)), Fraction(0)) + sum(t[i][i + 1:], Fraction(0))
+        a.append(parameter + h)
+        k.append(trim(h / a[i]))
+    return a
+
+
+def exact_matrix(reading: int, n: int, sheet: Sequence[float],
+                 trim: Callable[[Fraction], Fraction] = lambda k: k) -> FractionMatrix:
+    """The exact matrix A that the sheet stands for."""
+    sizes, diagonal = sheet_parts(n, sheet)
+    t = [[Fraction(x) for x in row] for row in sizes]
+    a = exact_diagonal(reading, t, [Fraction(x) for x in diagonal], trim)
+    return [[a[i] if i == j else -t[i][j] for j in range(n)] for i in range(n)]
+
+
+def whole_matrix(matrix: FractionMatrix) -> tuple[list[list[int]], list[Fraction], list[int]]:
+    """Whole numbers M with row factors R and column divisors C, M_ij = R_i · A_ij / C_j, kept short."""
+    n = len(matrix)
+    rows, factors = [], []
+    for row in matrix:
+        common = math.lcm(*(x.denominator for x in row))
+        whole = [x.numerator * (common // x.denominator) for x in row]
+        shared = math.gcd(*whole)
+        rows.append([x // shared for x in whole])
+        factors.append(Fraction(common, shared))
+    divisors = [math.gcd(*(rows[i][j] for i in range(n))) for j in range(n)]
+    return [[row[j] // divisors[j] for j in range(n)] for row in rows], factors, divisors
+
+
+def adjugate(m: list[list[int]]) -> Optional[tuple[list[list[int]], int]]:
+    """Z and D > 0 with M·Z = D·identity, by fraction-free (Bareiss) elimination and back substitution.
+
+    None where some leading minor is not positive: then a matrix without positive off-diagonals is no
+    nonsingular M-matrix.
+    """
+    n = len(m)
+    u = [list(m[i]) + [1 if i == j else 0 for j in range(n)] for i in range(n)]
+    previous = 1
+    for k in range(n):
+        p = u[k][k]
+        if p <= 0:
+            return None
+        for i in range(k + 1, n):
+            factor = u[i][k]
+            for j in range(k, 2 * n):
+                if u[i][j] or (factor and u[k][j]):
+                    u[i][j] = (p * u[i][j] - factor * u[k][j]) // previous
+        previous = p
+    z = [[0] * n for _ in range(n)]
+    for i in range(n - 1, -1, -1):
+        for j in range(n):
+            rest = sum(u[i][l] * z[l][j] for l in range(i + 1, n) if u[i][l] and z[l][j])
+            z[i][j] = (previous * u[i][n + j] - rest) // u[i][i]
+    for i in range(n):
+        for j in range(n):
+            product = sum(m[i][l] * z[l][j] for l in range(n) if m[i][l])
+            if product != (previous if i == j else 0):
+                raise ArithmeticError("M·Z is not D times the identity")
+    return z, previous
+
+
+def inverse_of(matrix: FractionMatrix) -> Optional[Inverse]:
+    """The exact inverse, checked by A times X = identity in whole numbers; None as for adjugate."""
+    whole, factors, divisors = whole_matrix(matrix)
+    solved = adjugate(whole)
+    if solved is None:
+        return None
+    z, determinant = solved
+    n = len(matrix)
+    return [[(z[i][j] * factors[j].numerator, determinant * factors[j].denominator * divisors[i])
+             for j in range(n)] for i in range(n)]
+
+
+def rounded(q: Fraction, digits: int, up: bool) -> Fraction:
+    """A number of so many binary digits just below or just above q ≥ 0."""
+    if q == 0:
+        return q
+    shift = digits - q.numerator.bit_length() + q.denominator.bit_length()
+    scaled = q * Fraction(2) ** shift
+    return (math.ceil(scaled) if up else math.floor(scaled)) / Fraction(2) ** shift
+
+
+def exact_bounds(reading: int, n: int, sheet: Sequence[float]) -> tuple[Inverse, Inverse]:
+    """Bounds of the exact inverse, entry by entry; both are the exact inverse where that is short enough.
+
+    The exact a_ii of margins grow beyond reach with n.  With k_i trimmed downward every a_ii is at most
+    the exact one; if that matrix is a nonsingular M-matrix so is A, and its inverse is nowhere below A's
+    (L^-1 − A^-1 = A^-1 (A − L) L^-1).  Trimmed upward the same holds the other way round.  Digits are
+    added until the two agree to 2^-64.
+    """
+    if reading == LEAVING_RATES or n <= EXACT_MARGINS_LIMIT:
+        inverse = inverse_of(exact_matrix(reading, n, sheet))
+        if inverse is None:
+            raise ArithmeticError("the exact matrix is no nonsingular M-matrix")
+        return inverse, inverse
+    return trimmed_bounds(reading, n, sheet)
+
+
+def trimmed_bounds(reading: int, n: int, sheet: Sequence[float]) -> tuple[Inverse, Inverse]:
+    """The bounds by trimming, for any n (see exact_bounds)."""
+    digits = 160
+    while True:
+        above = inverse_of(exact_matrix(reading, n, sheet, lambda k: rounded(k, digits, False)))
+        if above is not None:
+            below = inverse_of(exact_matrix(reading, n, sheet, lambda k: rounded(k, digits, True)))
+            assert below is not None
+            if all(agree(below[i][j], above[i][j]) for i in range(n) for j in range(n)):
+                return below, above
+        digits *= 2
+
+
+def agree(low: Quotient, high: Quotient) -> bool:
+    """Whether low ≤ high ≤ low·(1 + 2^-64)."""
+    left, right = low[0] * high[1], high[0] * low[1]
+    return left <= right and right << 64 <= left * (2 ** 64 + 1)
+
+
+def at_most(left: int, right: int, exponent: int) -> bool:
+    """left·(2^53)^E ≤ right·(2^53 + 1)^E for nonnegative whole numbers.
+
+    Bernoulli's 1 + E·u ≤ (1 + u)^E ≤ 1 / (1 − E·u), u = 2^-53, decides nearly always.
+    """
+    if left << 53 <= right * (2 ** 53 + exponent):
+        return True
+    if exponent < 2 ** 53 and left * (2 ** 53 - exponent) > right << 53:
+        return False
+    return left << (53 * exponent) <= right * (2 ** 53 + 1) ** exponent
+
+
+def near(x: Quotient, y: Quotient, exponent: int) -> bool:
+    """The accuracy rule's words for one entry: neither is negative and each is at most the other·(1+u)^E."""
+    left, right = x[0] * y[1], y[0] * x[1]
+    return left >= 0 and right >= 0 and at_most(left, right, exponent) and at_most(right, left, exponent)
+
+
+def roundings(x: Quotient, y: Quotient) -> float:
+    """The difference over the smaller of the two, in units of 2^-53; infinite where that is no float."""
+    left, right = x[0] * y[1], y[0] * x[1]
+    try:
+        return (abs(left - right) << 53) / min(left, right) if left != right else 0.0
+    except (ZeroDivisionError, OverflowError):
+        return math.inf
+
+
+@dataclass(frozen=True)
+class EntryError:
+    """How far one entry of a table is from the exact one, and whether the accuracy rule allows it."""
+    row: int
+    column: int
+    roundings: float
+    allowances: float
+    within: bool
+
+
+def accuracy(reading: int, n: int, sheet: Sequence[float], entries: Sequence[float]) -> list[EntryError]:
+    """Compares a table with the exact inverse by the accuracy rule (demand 3)."""
+    low, high = exact_bounds(reading, n, sheet)
+    most = allowance(reading, n)
+    errors = []
+    for i in range(n):
+        for j in range(n):
+            if not math.isfinite(entries[i * n + j]):
+                errors.append(EntryError(i + 1, j + 1, math.inf, math.inf, False))
+                continue
+            x = entries[i * n + j].as_integer_ratio()
+            error = max(roundings(x, low[i][j]), roundings(x, high[i][j]))
+            within = near(x, low[i][j], most) and near(x, high[i][j], most)
+            errors.append(EntryError(i + 1, j + 1, error, error / most, within))
+    return errors
+
+
+# ==== Random sheets ====
+
+@dataclass(frozen=True)
+class Style:
+    """What a random sheet looks like: share of nonzero moves, binary orders that the rates spread to
+    either side of 1, binary orders by which the diagonal stays below them, share of nonzero leaving
+    rates (reading 1) or of stages not kept (reading 2)."""
+    density: float
+    spread: int
+    below: int
+    share: float
+
+
+def random_style(rng: random.Random, widest: int = 300) -> Style:
+    """A style; 20 binary orders below the moves is a millionth."""
+    spread = min(widest, rng.choice([0, 3, 30, 100, 200, 300]))
+    below = rng.choice([0, 0, 20, 60, 200, 400])
+    return Style(rng.choice([0.1, 0.3, 0.6, 1.0]), spread, below, rng.choice([0.0, 0.2, 0.5, 1.0]))
+
+
+def random_size(rng: random.Random, spread: int, below: int = 0) -> float:
+    """A positive number 1 ≤ m < 2 times a power of two; often one whose digits round badly."""
+    digits = rng.choice([0, 1, 2 ** 52 - 1, rng.getrandbits(52), rng.getrandbits(52), rng.getrandbits(52)])
+    return math.ldexp(1.0 + digits * 2.0 ** -52, rng.randint(-spread, spread) - below)
+
+
+def random_zero(rng: random.Random) -> float:
+    """A zero of either sign."""
+    return rng.choice([0.0, -0.0])
+
+
+def random_sheet(rng: random.Random, reading: int, n: int, style: Style) -> list[float]:
+    """A sheet that questions 6 to 9 pass."""
+    moves = [[j != i and rng.random() < style.density for j in range(n)] for i in range(n)]
+    positive = [True] * n
+    if reading == LEAVING_RATES:
+        positive = [rng.random() < style.share for _ in range(n)]
+        let_out(rng, moves, positive)
+    else:
+        drop_stages(moves, [rng.random() < style.share for _ in range(n)])
+    sheet = []
+    for i in range(n):
+        for j in range(n):
+            if i == j:
+                sheet.append(random_size(rng, style.spread, style.below) if positive[i] else random_zero(rng))
+            else:
+                sheet.append(-random_size(rng, style.spread) if moves[i][j] else random_zero(rng))
+    return sheet
+
+
+def let_out(rng: random.Random, moves: list[list[bool]], positive: list[bool]) -> None:
+    """Gives every stage a chain to one stage that leaves."""
+    order = list(range(len(positive)))
+    rng.shuffle(order)
+    positive[order[0]] = True
+    for place in range(1, len(order)):
+        moves[order[place]][rng.choice(order[:place])] = True
+
+
+def drop_stages(moves: list[list[bool]], dropped: list[bool]) -> None:
+    """Makes h_i zero for the dropped stages: they may point to earlier dropped ones alone, in chains."""
+    for i, row in enumerate(moves):
+        if dropped[i]:
+            for j in range(len(row)):
+                row[j] = row[j] and j < i and dropped[j]
+
+
+def edge_pair(rng: random.Random, reading: int, n: int,
+              sheet: list[float]) -> Optional[tuple[list[float], list[float]]]:
+    """An accepted sheet and one refused with 10, equal but for one number, there one last place apart.
+
+    One nonzero number of an accepted sheet is carried towards an end of the range until acceptance
+    flips, and then bisected; None where it never flips.
+    """
+    place = rng.choice([at for at, x in enumerate(sheet) if x != 0.0])
+
+    def with_size(word: int) -> list[float]:
+        return sheet[:place] + [math.copysign(number_of(word), sheet[place])] + sheet[place + 1:]
+
+    def out_of_range(word: int) -> bool:
+        return table(reading, n, with_size(word), n * n) == Refused(10)
+
+    accepted = bits_of(abs(sheet[place]))
+    ends = [bits_of(SMALLEST_NORMAL), bits_of(LARGEST)]
+    flipped = [word for word in rng.sample(ends, 2) if out_of_range(word)]
+    if out_of_range(accepted) or not flipped:
+        return None
+    refused = flipped[0]
+    while abs(accepted - refused) > 1:
+        middle = (accepted + refused) // 2
+        if out_of_range(middle):
+            refused = middle
+        else:
+            accepted = middle
+    return with_size(accepted), with_size(refused)
+
+
+# ==== Self-test.  Expected values come from the papers, from exact fractions or from a calculation by hand. ====
+
+NAN, INF = math.nan, math.inf
+P_SHEET = [1.0, -1.0, -1.0, 0.0]
+P_TABLE = [1.0, 1.0, 1.0, 2.0]
+P_PRINTED = """seconds 2 32
+1 1 3ff0000000000000
+1 2 3ff0000000000000
+2 1 3ff0000000000000
+2 2 4000000000000000
+"""
+
+
+class Failed(Exception):
+    """A check that did not hold."""
+
+
+class Checks:
+    """Counts the checks and stops at the first that fails."""
+
+    def __init__(self) -> None:
+        self.count = 0
+
+    def true(self, what: str, holds: bool) -> None:
+        self.count += 1
+        if not holds:
+            raise Failed(what)
+
+    def equal(self, what: str, got: object, expected: object) -> None:
+        self.true(f"{what}: got {got}, expected {expected}", got == expected)
+
+    def gives(self, what: str, reading: int, n: int, sheet: Sequence[float],
+              expected: Union[Refused, list[float]]) -> None:
+        """The whole table and each single entry give these bits, or both services this refusal."""
+        got = table(reading, n, sheet, n * n)
+        if isinstance(expected, Refused):
+            self.equal(what, got, expected)
+            self.equal(f"{what}, one entry", entry(reading, n, sheet, 1, 1), expected)
+            return
+        self.true(f"{what}: {got}", isinstance(got, Table))
+        factor = 4 if reading == 1 else 12
+        self.equal(f"{what}, n and allowance", (got.n, got.allowance), (n, factor * n * n * n))
+        self.equal(what, [f"{bits_of(x):016x}" for x in got.entries], [f"{bits_of(x):016x}" for x in expected])
+        for place, x in enumerate(expected):
+            one = entry(reading, n, sheet, place // n + 1, place % n + 1)
+            self.true(f"{what}, one entry: {one}", isinstance(one, Seconds) and bits_of(one.value) == bits_of(x))
+
+
+def test_document_sheets(check: Checks) -> None:
+    """All of "Sheets to try"."""
+    for name, reading, n, sheet, expected in [
+            ("A", 1, 1, [2.0], [0.5]),
+            ("B", 1, 1, [0.0], Refused(9, 1, 0)),
+            ("P", 1, 2, P_SHEET, P_TABLE),
+            ("C", 1, 2, [0.0, -1.0, -1.0, 0.0], Refused(9, 1, 0)),
+            ("D", 1, 2, [1.0, 0.0, 0.0, 0.0], Refused(9, 2, 0)),
+            ("E", 1, 1, [2.0 ** 1021], [2.0 ** -1021]),
+            ("F", 1, 1, [2.0 ** 1022], Refused(10, 0, 0)),
+            ("G", 2, 1, [0.0], Refused(7, 1, 1)),
+            ("H", 2, 2, [3.0, -1.0, -4.0, 1.0], [0.5, 0.25, 1.0, 1.0]),
+            ("I", 2, 2, [2.0, 0.0, -1.0, 4.0], [0.5, 0.0, 0.125, 0.25]),
+            ("J", 1, 2, [1.0, NAN, 5.0, 1.0], Refused(6, 1, 2)),
+            ("K", 1, 1, [3.0], [number_of(0x3fd5555555555555)]),
+            ("n = 0", 1, 0, [], Refused(2, 0, 0)),
+            ("n = 33", 1, 33, [1.0] * 1089, Refused(2, 0, 0)),
+            ("-2^-1074 off the diagonal", 1, 2, [1.0, -2.0 ** -1074, 0.0, 1.0], Refused(8, 1, 2)),
+            # -2^-1022 passes 8: here a quotient is then 2^-1022 itself, and here all steps are in range
+            ("-2^-1022 off the diagonal", 1, 2, [1.0, -2.0 ** -1022, 0.0, 1.0], Refused(10, 0, 0)),
+            ("-2^-1022, in range", 1, 2, [1.0, -2.0 ** -1022, 0.0, 2.0 ** -10],
+             [1.0, 2.0 ** -1012, 0.0, 2.0 ** 10])]:
+        check.gives(f"sheet {name}", reading, n, sheet, expected)
+    check.equal("matrix of H", exact_matrix(2, 2, [3.0, -1.0, -4.0, 1.0]), [[4, -1], [-4, 2]])
+
+
+def test_order_and_places(check: Checks) -> None:
+    """The questions in order, each asked of the whole sheet before the next, with their places."""
+    two_to_1022 = 2.0 ** 1022
+    check.gives("6 before 7", 1, 2, [5.0, 1.0, NAN, 1.0], Refused(6, 2, 1))
+    check.gives("7 before 8", 1, 2, [1.0, -2.0 ** -1074, 1.0, 1.0], Refused(7, 2, 1))
+    check.gives("8 before 9", 1, 2, [0.0, -2.0 ** -1074, 0.0, 0.0], Refused(8, 1, 2))
+    check.gives("8 on the diagonal", 2, 2, [1.0, 0.0, 0.0, 2.0 ** -1074], Refused(8, 2, 2))
+    check.gives("9 before 10", 1, 2, [two_to_1022, 0.0, 0.0, 0.0], Refused(9, 2, 0))
+    check.gives("infinite is 6", 1, 2, [1.0, 0.0, 0.0, INF], Refused(6, 2, 2))
+    check.gives("-infinite is 6", 2, 1, [-INF], Refused(6, 1, 1))
+    check.gives("negative diagonal", 1, 2, [1.0, 0.0, 0.0, -1.0], Refused(7, 2, 2))
+    check.gives("negative diagonal, margins", 2, 1, [-1.0], Refused(7, 1, 1))
+    check.gives("lowest trapped stage", 1, 4, [0.0, 0.0, 0.0, -1.0, 0.0, 0.0, -1.0, 0.0,
+                                               0.0, -1.0, 0.0, 0.0, 0.0, 0.0, 0.0, 1.0], Refused(9, 2, 0))
+    for reading in (0, 3, 2 ** 64 - 1):
+        check.equal("1 before 2", table(reading, 0, [], 0), Refused(1))
+        check.equal("1 before 2, entry", entry(reading, 0, [], 0, 0), Refused(1))
+    for n in (0, 33, 2 ** 32, 2 ** 63, 2 ** 64 - 1):
+        check.equal("2 before 3", table(1, n, [NAN], 0), Refused(2))
+        check.equal("2 before 3, entry", entry(2, n, [NAN], 0, 0), Refused(2))
+    for length in (0, 1, 3, 5):
+        check.equal("3 before 4", table(1, 2, [NAN] * length, 0), Refused(3))
+        check.equal("3 before 5", entry(1, 2, [NAN] * length, 0, 0), Refused(3))
+    check.equal("4 before 6", table(1, 1, [NAN], 0), Refused(4))
+    check.equal("area one short", table(1, 2, P_SHEET, 3), Refused(4))
+    check.true("a larger area", isinstance(table(1, 2, P_SHEET, 2000), Table))
+    check.equal("5 before 6", entry(1, 1, [NAN], 2, 1), Refused(5))
+    for i, j in [(0, 1), (1, 0), (3, 1), (1, 3), (2 ** 64 - 1, 1), (1, 2 ** 64 - 1)]:
+        check.equal("5", entry(1, 2, P_SHEET, i, j), Refused(5))
+    check.equal("entry of a refused table", entry(1, 2, [1.0, 0.0, 0.0, two_to_1022], 1, 1), Refused(10))
+
+
+def test_zeros(check: Checks) -> None:
+    """A zero of either sign counts as plus zero, and a table's zeros are plus zero."""
+    check.gives("minus zero, leaving rate", 1, 1, [-0.0], Refused(9, 1, 0))
+    check.gives("minus zero, margin", 2, 2, [1.0, 0.0, 0.0, -0.0], Refused(7, 2, 2))
+    check.gives("P with minus zero", 1, 2, [1.0, -1.0, -1.0, -0.0], P_TABLE)
+    for zero in (0.0, -0.0):
+        check.gives("diagonal sheet", 1, 2, [2.0, zero, zero, 4.0], [0.5, 0.0, 0.0, 0.25])
+        check.gives("diagonal sheet, margins", 2, 2, [2.0, zero, zero, 4.0], [0.5, 0.0, 0.0, 0.25])
+        check.gives("I", 2, 2, [2.0, zero, -1.0, 4.0], [0.5, 0.0, 0.125, 0.25])
+
+
+def test_range(check: Checks) -> None:
+    """The range test of a single step, and the sheets at its edge."""
+    least = number_of(bits_of(SMALLEST_NORMAL) + 1)
+    for what, step, expected in [
+            ("product at 2^-1022", lambda: mul(2.0 ** -500, 2.0 ** -522), False),
+            ("product above it", lambda: mul(least, 1.0), True),
+            ("product with zero", lambda: mul(0.0, 2.0 ** -1022), True),
+            ("product that vanishes", lambda: mul(2.0 ** -600, 2.0 ** -600), False),
+            ("product that overflows", lambda: mul(2.0 ** 600, 2.0 ** 600), False),
+            ("quotient at 2^-1022", lambda: div(1.0, 2.0 ** 1022), False),
+            ("quotient above it", lambda: div(least, 1.0), True),
+            ("quotient of zero", lambda: div(0.0, 3.0), True),
+            ("quotient that overflows", lambda: div(2.0 ** 600, 2.0 ** -600), False),
+            ("sum that overflows", lambda: add(LARGEST, LARGEST), False),
+            ("largest sum", lambda: add(LARGEST, 1.0), True),
+            ("smallest sum", lambda: add(0.0, 2.0 ** -1022), True)]:
+        check.equal(what, in_range(step), expected)
+    check.gives("a product rounds to 2^-1022", 1, 2,
+                [(1 + 2.0 ** -52) * 2.0 ** -500, -1.0, -(1 - 2.0 ** -53) * 2.0 ** -522, 1.0], Refused(10))
+    check.gives("a quotient just above 2^-1022", 1, 1, [2.0 ** 1022 - 2.0 ** 969], [number_of(0x0010000000000001)])
+    tiny = 2.0 ** -1022
+    check.gives("d_2 / a_2 beside a zero t_12", 2, 3, [1.0, 0.0, -1.0, 0.0, tiny, -1.0, 0.0, 0.0, 1.0], Refused(10))
+    check.gives("d_1 / a_1 is never taken", 2, 2, [tiny, -1.0, 0.0, 1.0], [1.0, 1.0, 0.0, 1.0])
+    test_range_of_each_step(check)
+    check.equal("range facts kept apart", range_facts([[0.0, 0.0], [0.0, 0.0]], [1.0, 2.0 ** 1022]),
+                RangeFacts(True, [True, False]))
+    check.equal("shared step out of range", range_facts([[0.0, LARGEST], [0.0, 0.0]], [LARGEST, 1.0]),
+                RangeFacts(False, []))
+
+
+def test_range_of_each_step(check: Checks) -> None:
+    """For each kind of step a sheet in which one step of that kind leaves the range first, made by hand."""
+    tiny, huge, most = 2.0 ** -600, 2.0 ** 600, LARGEST
+    for what, reading, n, sheet in [
+            ("pivot", 1, 3, [1.0, 0.0, 0.0, 0.0, most, -most, 0.0, 0.0, 1.0]),
+            ("downward m", 1, 2, [huge, 0.0, -tiny, 1.0]),
+            ("m·s_k", 1, 2, [tiny, -1.0, -tiny, 1.0]),
+            ("s_i + m·s_k", 1, 2, [most, 0.0, -most, most]),
+            ("m·t_kj", 1, 3, [1.0, 0.0, -tiny, -tiny, 1.0, 0.0, 0.0, 0.0, 1.0]),
+            ("downward m·b_kj", 1, 3, [1.0, 0.0, 0.0, -tiny, 1.0, 0.0, 0.0, -tiny, 1.0]),
+            ("upward m", 1, 2, [1.0, -tiny, 0.0, huge]),
+            ("upward m·b_kj", 1, 3, [1.0, -tiny, 0.0, 0.0, 1.0, -tiny, 0.0, 0.0, 1.0]),
+            ("b_ij / p_i", 1, 2, [1.0, 0.0, 0.0, 2.0 ** 1022]),
+            ("t_ij·k_j in h", 2, 2, [huge, -1.0, -tiny, 1.0]),
+            ("h", 2, 3, [1.0, -most, -most, 0.0, 1.0, 0.0, 0.0, 0.0, 1.0]),
+            ("a = d + h", 2, 2, [most, -most, 0.0, 1.0]),
+            ("k = h / a", 2, 2, [huge, -tiny, 0.0, 1.0]),
+            ("new size", 2, 3, [1.0, -tiny, -1.0, 0.0, huge, -1.0, 0.0, 0.0, 1.0]),
+            ("t·(d / a)", 2, 3, [1.0, -tiny, -1.0, 0.0, tiny, -1.0, 0.0, 0.0, 1.0]),
+            ("k_i·y_ij", 2, 3, [huge, -tiny, -1.0, 0.0, 1.0, -1.0, 0.0, 0.0, 1.0]),
+            ("1 / a_k", 2, 1, [2.0 ** 1022]),
+            ("t_jk / a_k", 2, 2, [huge, 0.0, -tiny, 1.0]),
+            ("x_ij·(t_jk / a_k)", 2, 2, [1.0, 0.0, -tiny, huge])]:
+        check.gives(f"{what} out of range", reading, n, sheet, Refused(10))
+    chain = [[0.0, 0.0, 0.0], [tiny, 0.0, 0.0], [0.0, tiny, 0.0]]
+    check.equal("column 1 alone", range_facts(chain, [1.0] * 3), RangeFacts(True, [False, True, True]))
+    chain = [[0.0, tiny, 0.0], [0.0, 0.0, tiny], [0.0, 0.0, 0.0]]
+    check.equal("column 3 alone", range_facts(chain, [1.0] * 3), RangeFacts(True, [True, True, False]))
+
+
+def test_margins(check: Checks) -> None:
+    """The places where document 01 differs from the algorithms of 000, and the order of a pivot's sum."""
+    check.gives("leaving rates over every j > i", 2, 2, [3.0, -1.0, 0.0, 1.0], [0.25, 0.25, 0.0, 1.0])
+    for what, reading, n, sheet, i, j, bits in [
+            ("a single kept stage", 2, 2, [1.0, -5.0, 0.0, 1.0], 1, 1, 0x3fc5555555555556),
+            ("t times (d / a)", 2, 2, [4.0, -3.0, -1.0, 1.0], 1, 1, 0x3fca1f58d0fac689),
+            ("t / a", 2, 2, [5.0, 0.0, -3.0, 1.0], 2, 1, 0x3fe3333333333333),
+            ("sums over known stages rise", 2, 4, [1.0, 0.0, 0.0, 0.0, -7.0, 3.0, 0.0, -3.0,
+                                                   -7.0, 0.0, 4.0, 0.0, -3.0, -5.0, -5.0, 7.0],
+             2, 1, 0x4003618618618619),
+            # by hand: h_1, a_1 and the leaving rate are 2^53, each 1 added later being lost
+            ("h and leaving rates rise", 2, 4, [1.0, -2.0 ** 53, -1.0, -1.0, 0.0, 1.0, 0.0, 0.0,
+                                                0.0, 0.0, 1.0, 0.0, 0.0, 0.0, 0.0, 1.0], 1, 1, 0x3ca0000000000000),
+            # by hand: h_2 = 2^53·k_1 + 1 + 1 is 2^53, k_1 and k_2 are 1, p_2 = 2 + 2^53, x_22 = 1 / p_2
+            ("products first in h", 2, 4, [2.0 ** -60, 0.0, 0.0, -1.0, -2.0 ** 53, 1.0, -1.0, -1.0,
+                                           0.0, 0.0, 1.0, 0.0, 0.0, 0.0, 0.0, 1.0], 2, 2, 0x3c9ffffffffffffe),
+            ("a pivot rises from s_k", 1, 3, [2.0 ** 53, -1.0, -1.0, 0.0, 1.0, 0.0, 0.0, 0.0, 1.0],
+             1, 1, 0x3ca0000000000000),
+            # by hand: upward b_11 is 1, plus 2^-53 of stage 3 (a tie, 1), plus 2^-53 + 2^-60 of stage 2
+            # (1 + 2^-52), over p_1 = 1 + 2^-51; the other order gives 1
+            ("upward from the last stage", 1, 3, [1.0, -(2.0 ** -53 + 2.0 ** -60), -2.0 ** -53,
+                                                  -(1 + 2.0 ** -51), 0.0, 0.0, -(1 + 2.0 ** -51), 0.0, 0.0],
+             1, 1, 0x3feffffffffffffe)]:
+        got = entry(reading, n, sheet, i, j)
+        check.true(f"{what}: {got}", isinstance(got, Seconds) and bits_of(got.value) == bits)
+
+
+def test_rounding(check: Checks, rng: random.Random) -> None:
+    """Each step is the exact result rounded once: a Fraction becomes the nearest float, ties to even."""
+    steps = [(add, lambda x, y: x + y), (mul, lambda x, y: x * y), (div, lambda x, y: x / y)]
+    for _ in range(700):
+        x, y = random_size(rng, 600), random_size(rng, 600)
+        for step, exact in steps:
+            try:
+                expected = float(exact(Fraction(x), Fraction(y)))
+                expected_in_range = step is add or expected > 2.0 ** -1022
+            except OverflowError:
+                expected, expected_in_range = INF, False
+            check.equal("range of a step", in_range(lambda: step(x, y)), expected_in_range)
+            if expected_in_range:
+                check.equal("a step", step(x, y), expected)
+
+
+def literal_steps(n: int, sheet: Sequence[float]) -> list[float]:
+    """Document 01's steps for leaving rates word by word: stages from 1, b as a whole table, no range test."""
+    places = range(1, n + 1)
+    t = {(i, j): 0.0 - sheet[(i - 1) * n + j - 1] for i in places for j in places if i != j}
+    s = {i: sheet[(i - 1) * n + i - 1] + 0.0 for i in places}
+    b = {(i, j): float(i == j) for i in places for j in places}
+    p: dict[int, float] = {}
+    for k in places:
+        p[k] = s[k]
+        for j in range(k + 1, n + 1):
+            p[k] = p[k] + t[k, j]
+        for i in range(k + 1, n + 1):
+            m = t[i, k] / p[k]
+            s[i] = s[i] + m * s[k]
+            for j in range(k + 1, n + 1):
+                if j != i:
+                    t[i, j] = t[i, j] + m * t[k, j]
+            for j in range(1, k + 1):
+                b[i, j] = b[i, j] + m * b[k, j]
+    for k in range(n, 1, -1):
+        for i in range(1, k):
+            m = t[i, k] / p[k]
+            for j in places:
+                b[i, j] = b[i, j] + m * b[k, j]
+    return [b[i, j] / p[i] for i in places for j in places]
+
+
+def test_literal_steps(check: Checks, rng: random.Random) -> None:
+    """The steps column by column have the bits of the text's whole table."""
+    for _ in range(300):
+        n = rng.randint(1, 9)
+        sheet = random_sheet(rng, LEAVING_RATES, n, random_style(rng, 60))
+        got = table(LEAVING_RATES, n, sheet, n * n)
+        if isinstance(got, Table):
+            check.equal("column by column", [bits_of(x) for x in got.entries],
+                        [bits_of(x) for x in literal_steps(n, sheet)])
+
+
+def leads_out(moves: list[list[bool]], leaves: list[bool], i: int, chain: tuple[int, ...] = ()) -> bool:
+    """Brute force: some chain of moves without repetition leads from stage i to one that leaves."""
+    return leaves[i] or any(moves[i][j] and leads_out(moves, leaves, j, chain + (i,))
+                            for j in range(len(leaves)) if j != i and j not in chain)
+
+
+def test_trapped(check: Checks, rng: random.Random) -> None:
+    """Question 9 against every chain: all patterns up to n = 3, random ones up to n = 6."""
+    for n in (1, 2, 3, 4, 5, 6):
+        patterns = range(2 ** (n * n)) if n <= 3 else (rng.getrandbits(n * n) & rng.getrandbits(n * n)
+                                                       for _ in range(400))
+        for pattern in patterns:
+            present = [bool(pattern >> place & 1) for place in range(n * n)]
+            moves = [[i != j and present[i * n + j] for j in range(n)] for i in range(n)]
+            leaves = [present[i * n + i] for i in range(n)]
+            sheet = [(1.0 if p % (n + 1) == 0 else -1.0) if present[p] else 0.0 for p in range(n * n)]
+            trapped = [i + 1 for i in range(n) if not leads_out(moves, leaves, i)]
+            got = table(1, n, sheet, n * n)
+            if trapped:
+                check.equal(f"trapped, {sheet}", got, Refused(9, trapped[0], 0))
+            else:
+                check.true(f"not trapped, {sheet}", isinstance(got, Table))
+
+
+def changed(data: bytes, at: int, form: str, value: int) -> bytes:
+    """The bytes with one field changed."""
+    field = struct.pack(form, value)
+    return data[:at] + field + data[at + len(field):]
+
+
+def test_file(check: Checks, rng: random.Random) -> None:
+    """The file format: round trips, every cut, every field changed, the order of 11 to 14 and 4."""
+    for reading in (1, 2):
+        for n in (1, 2, 3, 7, 31, 32):
+            words = [rng.getrandbits(64) for _ in range(n * n)]
+            words[-1] = rng.choice([0x7ff0000000000001, 0xfff8000000000000, 0x7ff8dead00000000, 1 << 63])
+            data = make_file_words(reading, n, words)
+            check.equal("length of a file", len(data), 10 + n * (8 * n + 8))
+            check.equal("round trip", load(data, n * n), Loaded(reading, n, words))
+            check.equal("an area one short", load(data, n * n - 1), Refused(4))
+            check.equal("one more byte, small area", load(data + b"\0", 0), Refused(14))
+    check.equal("longest file", len(make_file(1, 32, [1.0] * 1024)), 8458)
+    check.equal("bytes of A's file", make_file(1, 1, [2.0]).hex(),
+                "040000000100" "01000100" "0a0000000200" "0100" "0000000000000040")
+    for number, word in [("0x7ff8dead00000001", 0x7ff8dead00000001), ("-0x1p-1022", 0x8010000000000000),
+                         ("-0", 1 << 63), ("0.5", 0x3fe0000000000000), ("inf", 0x7ff0000000000000)]:
+        check.equal(f"number {number}", parse_word(number), word)
+    data = make_file(1, 2, P_SHEET)
+    loaded = load(data, 4)
+    check.true("numbers of P's file", isinstance(loaded, Loaded) and loaded.numbers == P_SHEET)
+    for cut in range(58):
+        row_due = 0 if cut < 10 else 1 if cut < 34 else 2
+        check.equal(f"cut at {cut}", load(data[:cut], 0), Refused(11, row_due))
+    words = [bits_of(x) for x in P_SHEET]
+    head, first, second = Refused(12), Refused(13, 1), Refused(13, 2)
+    for at, form, values, expected in [
+            (0, "<I", (0, 3, 5, 6, 48, 52), head), (0, "<I", (53, 2 ** 31, 2 ** 32 - 1), Refused(11, 0)),
+            (4, "<H", (0, 2, 3, 257), head), (6, "<H", (0, 3, 257), head), (6, "<H", (2,), Loaded(2, 2, words)),
+            (8, "<H", (0, 33, 258, 65535), head), (8, "<H", (1, 3, 32), first),
+            (10, "<I", (0, 1, 17, 19, 42), first), (10, "<I", (43, 2 ** 32 - 1), Refused(11, 1)),
+            (14, "<H", (0, 1, 3, 258), first), (16, "<H", (0, 2, 257), first),
+            (34, "<I", (0, 17), second), (34, "<I", (19, 2 ** 32 - 1), Refused(11, 2)),
+            (38, "<H", (0, 1, 3, 258), second), (40, "<H", (0, 1, 3, 258), second),
+            (18, "<Q", (0x7ff8dead00000001,), Loaded(1, 2, [0x7ff8dead00000001] + words[1:]))]:
+        for value in values:
+            check.equal(f"field at {at} is {value}", load(changed(data, at, form, value), 4), expected)
+    check.equal("a bad row before a cut one", load(changed(data, 16, "<H", 9)[:50], 4), first)
+    check.equal("a row of length 0", load(data[:10] + record(SHEET_ROW, b"") + data[34:], 4), first)
+    check.equal("a row of length 0 at the end", load(data[:34] + record(SHEET_ROW, b""), 4), second)
+    check.equal("10,006 bytes", load(struct.pack("<IH", 9000, 2) + bytes(10000), 1024), head)
+
+
+def test_dwell(check: Checks) -> None:
+    """What the program prints, and how many bytes it judges."""
+    check.equal("dwell of P", dwell(make_file(1, 2, P_SHEET)), P_PRINTED)
+    check.equal("dwell of I", dwell(make_file(2, 2, [2.0, -0.0, -1.0, 4.0])),
+                "seconds 2 96\n1 1 3fe0000000000000\n1 2 0000000000000000\n"
+                "2 1 3fc0000000000000\n2 2 3fd0000000000000\n")
+    longest = make_file(1, 32, [2.0 if i == j else 0.0 for i in range(32) for j in range(32)])
+    lines = dwell(longest).split("\n")
+    check.equal("dwell of a longest file", (lines[0], lines[33], lines[1024:]),
+                ("seconds 32 131072", "2 1 0000000000000000", ["32 32 3fe0000000000000", ""]))
+    for what, data, line in [
+            ("nothing", b"", "11 0 0"), ("B", make_file(1, 1, [0.0]), "9 1 0"),
+            ("C", make_file(1, 2, [0.0, -1.0, -1.0, 0.0]), "9 1 0"), ("F", make_file(1, 1, [2.0 ** 1022]), "10 0 0"),
+            ("G", make_file(2, 1, [0.0]), "7 1 1"), ("J", make_file(1, 2, [1.0, NAN, 5.0, 1.0]), "6 1 2"),
+            ("a signalling NaN", make_file_words(1, 1, [0x7ff0000000000001]), "6 1 1"),
+            ("a cut row", make_file(1, 2, P_SHEET)[:-1], "11 2 0"), ("n = 33", record(1, b"\1\0\x21\0"), "12 0 0"),
+            ("reading 3", record(1, b"\3\0\1\0"), "12 0 0"), ("more bytes", longest + b"\0", "14 0 0"),
+            ("many more bytes", longest + bytes(9000), "14 0 0"),
+            ("length 8454", struct.pack("<IH", 8454, 2) + bytes(10000), "11 0 0"),
+            ("length 8453", struct.pack("<IH", 8453, 2) + bytes(10000), "12 0 0")]:
+        check.equal(f"dwell of {what}", dwell(data), f"refused {line}\n")
+
+
+def test_exact_side(check: Checks, rng: random.Random) -> None:
+    """A times X is the identity over Fractions, the bounds enclose, and the rule is the rule's words."""
+    for round_ in range(60):
+        reading, n = rng.choice([1, 2]), rng.randint(1, 5)
+        sheet = random_sheet(rng, reading, n, random_style(rng))
+        a = exact_matrix(reading, n, sheet)
+        low, high = exact_bounds(reading, n, sheet)
+        check.true("one exact inverse", low is high)
+        x = [[Fraction(*q) for q in row] for row in low]
+        product = [[sum(a[i][l] * x[l][j] for l in range(n)) for j in range(n)] for i in range(n)]
+        check.equal("A times X", product, [[int(i == j) for j in range(n)] for i in range(n)])
+        check.true("X is not negative", all(q >= 0 for row in x for q in row))
+        if reading == LEAVING_RATES:
+            check.equal("row sums", [sum(row) for row in a], [Fraction(sheet[i * n + i]) for i in range(n)])
+        elif round_ % 2:
+            below, above = trimmed_bounds(reading, n, sheet)
+            check.true("trimmed bounds enclose", all(
+                Fraction(*below[i][j]) <= x[i][j] <= Fraction(*above[i][j]) for i in range(n) for j in range(n)))
+    for exponent in (0, 1, 4, 32, 96, 500):
+        y, x = 2 ** (53 * exponent), (2 ** 53 + 1) ** exponent
+        check.true("at the allowance", near((x, 1), (y, 1), exponent) and near((y, 7), (x, 7), exponent))
+        check.true("past it", not near((x + 1, 1), (y, 1), exponent) and not near((y, 7), (x + 1, 7), exponent))
+        check.true("zero iff zero", near((0, 1), (0, 5), exponent) and not near((0, 1), (1, 5), exponent)
+                   and not near((1, 5), (0, 1), exponent))
+        check.true("negative", not near((-1, 1), (-1, 1), exponent))
+    check.equal("units", (roundings((2 ** 53 + 3, 2), (2 ** 52, 1)), roundings((2 ** 52, 1), (2 ** 53 + 3, 2)),
+                          roundings((0, 1), (0, 2)), roundings((0, 1), (1, 2))), (3.0, 3.0, 0.0, INF))
+
+
+@dataclass
+class Worst:
+    """The largest errors seen for one reading."""
+    reading: int
+    accepted: int = 0
+    out_of_range: int = 0
+    edges: int = 0
+    per_stage: tuple[float, int] = (0.0, 1)     # roundings over n, and n
+    of_allowance: tuple[float, int] = (0.0, 1)  # and n
+
+    def note(self, n: int, errors: list[EntryError]) -> None:
+        self.accepted += 1
+        self.per_stage = max(self.per_stage, (max(error.roundings for error in errors) / n, n))
+        self.of_allowance = max(self.of_allowance, (max(error.allowances for error in errors), n))
+
+    def line(self) -> str:
+        name = "leaving rates" if self.reading == LEAVING_RATES else "margins"
+        return (f"{name}: {self.accepted} random sheets accepted ({self.edges} at the edge of the range), "
+                f"{self.out_of_range} out of range; largest error {self.per_stage[0]:.3f}·n roundings "
+                f"(n = {self.per_stage[1]}), {self.of_allowance[0]:.4f} of the allowance "
+                f"(n = {self.of_allowance[1]})")
+
+
+def check_accuracy(check: Checks, worst: Worst, n: int, sheet: list[float]) -> bool:
+    """An accepted table keeps the accuracy rule; a sheet made to pass 6 to 9 is refused with 10 alone."""
+    got = table(worst.reading, n, sheet, n * n)
+    if isinstance(got, Refused):
+        check.equal("the only refusal", got, Refused(10))
+        worst.out_of_range += 1
+        return False
+    errors = accuracy(worst.reading, n, sheet, got.entries)
+    for error in errors:
+        check.true(f"accuracy of reading {worst.reading}, {sheet}: {error}", error.within)
+    check.true("zeros are plus zero", all(math.copysign(1.0, x) == 1.0 for x in got.entries))
+    worst.note(n, errors)
+    return True
+
+
+def test_random_sheets(check: Checks, rng: random.Random, long: bool) -> None:
+    """Random sheets of both readings against the exact inverse, with sheets at the edge of the range."""
+    for reading in (LEAVING_RATES, MARGINS):
+        worst = Worst(reading)
+        for _ in range(4000 if long else 700):
+            n = rng.randint(1, 7)
+            check_accuracy(check, worst, n, random_sheet(rng, reading, n, random_style(rng)))
+        for n in range(8, LIMIT + 1):
+            for _ in range(5 if long else 1):
+                widest = 300 if long or n <= 16 else 30
+                check_accuracy(check, worst, n, random_sheet(rng, reading, n, random_style(rng, widest)))
+        for _ in range(1000 if long else 150):
+            n = rng.randint(1, 5)
+            pair = edge_pair(rng, reading, n, random_sheet(rng, reading, n, random_style(rng)))
+            if pair is not None:
+                worst.edges += 1
+                apart = [abs(bits_of(x) - bits_of(y)) for x, y in zip(*pair)]
+                check.equal("one last place apart", sorted(apart), [0] * (n * n - 1) + [1])
+                check.true("accepted at the edge", check_accuracy(check, worst, n, pair[0]))
+                check.gives("refused at the edge", reading, n, pair[1], Refused(10))
+        for _ in range(30):
+            n = rng.randint(1, 5)
+            sheet = random_sheet(rng, reading, n, random_style(rng, 30))
+            got = table(reading, n, sheet, n * n)
+            check.gives("entries of a table", reading, n, sheet, got if isinstance(got, Refused) else got.entries)
+        print(worst.line(), flush=True)
+
+
+def self_test(long: bool) -> int:
+    """Runs every check; the exit status."""
+    check, rng, start = Checks(), random.Random(20240101), time.monotonic()
+    try:
+        test_document_sheets(check)
+        test_order_and_places(check)
+        test_zeros(check)
+        test_range(check)
+        test_margins(check)
+        test_rounding(check, rng)
+        test_literal_steps(check, rng)
+        test_trapped(check, rng)
+        test_file(check, rng)
+        test_dwell(check)
+        test_exact_side(check, rng)
+        test_random_sheets(check, rng, long)
+    except Failed as failure:
+        print(f"FAILED after {check.count} checks: {failure}")
+        return 1
+    print(f"{time.monotonic() - start:.1f} seconds")
+    print(f"{check.count} checks passed")
+    return 0
+
+
+# ==== Command line ====
+
+USAGE = """usage: reference.py COMMAND
+  dwell < FILE               print what the dwell program prints for this sheet file
+  file READING N NUMBER...   write a sheet file to standard output; a number is a decimal or hexadecimal
+                             float (-0.5, -0x1p-1022, nan, inf) or a word of 0x and 16 hexadecimal digits
+  accuracy < FILE            print for each entry: row, column, bits, its error in roundings (units of
+                             2^-53) and in allowances, and whether the accuracy rule holds
+  --self-test [--long]       check this reference; --long takes minutes and goes through every n up to 32
+  --help                     print this
+"""
+
+
+def parse_word(text: str) -> int:
+    """The 64 bits of a number from the command line."""
+    if re.fullmatch(r"0x[0-9a-fA-F]{16}", text):
+        return int(text, 16)
+    return bits_of(float.fromhex(text) if "x" in text.lower() else float(text))
+
+
+def print_accuracy(data: bytes) -> int:
+    """The accuracy command; the exit status tells whether the rule holds."""
+    found = table_of_stream(data)
+    if isinstance(found, Refused):
+        print(refused_line(found), end="")
+        return 0
+    sheet, answer = found
+    errors = accuracy(sheet.reading, sheet.n, sheet.numbers, answer.entries)
+    for error, x in zip(errors, answer.entries):
+        print(f"{error.row} {error.column} {bits_of(x):016x} {error.roundings:.4f} {error.allowances:.6f} "
+              f"{'within' if error.within else 'TOO FAR'}")
+    return 0 if all(error.within for error in errors) else 1
+
+
+def write_file(arguments: list[str]) -> int:
+    """The file command: reading, n, then n × n numbers."""
+    try:
+        reading, n, words = int(arguments[0]), int(arguments[1]), [parse_word(text) for text in arguments[2:]]
+        if len(words) != n * n:
+            raise ValueError(f"{n} stages need {n * n} numbers, not {len(words)}")
+        data = make_file_words(reading, n, words)
+    except (ValueError, OverflowError, struct.error) as error:
+        print(f"file: {error}", file=sys.stderr)
+        return 2
+    sys.stdout.buffer.write(data)
+    return 0
+
+
+def main(arguments: list[str]) -> int:
+    """Runs one command; the exit status."""
+    if arguments == ["--self-test"] or arguments == ["--self-test", "--long"]:
+        return self_test("--long" in arguments)
+    if arguments == ["dwell"]:
+        sys.stdout.write(dwell(sys.stdin.buffer.read(LONGEST_FILE + 1)))
+        return 0
+    if arguments == ["accuracy"]:
+        return print_accuracy(sys.stdin.buffer.read(LONGEST_FILE + 1))
+    if arguments[:1] == ["file"] and len(arguments) >= 3:
+        return write_file(arguments[1:])
+    print(USAGE, end="", file=sys.stdout if arguments == ["--help"] else sys.stderr)
+    return 0 if arguments == ["--help"] else 2
+
+
+if __name__ == "__main__":
+    sys.exit(main(sys.argv[1:]))
