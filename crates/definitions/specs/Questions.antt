@@ -96,20 +96,26 @@ question9 reading n sheet = let asked = askStages (getsOut n sheet) 9 0 n in con
 unfoldable pub question10 : ℕ → ℕ → List Float → Asked
 question10 reading n sheet = ask (everyStepInRange reading n sheet) 10 0 0
 
--- 6 to 10, of the numbers themselves.
+-- 6 to 9: of the numbers, before any step is taken.
 unfoldable pub numberQuestions : ℕ → ℕ → List Float → Asked
 numberQuestions reading n sheet =
-    question6 n sheet then question7 reading n sheet then question8 n sheet then question9 reading n sheet then question10 reading n sheet
+    question6 n sheet then question7 reading n sheet then question8 n sheet then question9 reading n sheet
 
--- The whole table is asked 1, 2, 3, 4 and 6 to 10; `room` is the length of the answer area.
-unfoldable pub tableQuestions : ℕ → ℕ → List Float → ℕ → Asked
-tableQuestions reading n sheet room =
+-- The whole table is asked 1, 2, 3, 4, 6, 7, 8, 9 and 10; `room` is the length of the answer area.
+unfoldable pub tableInput : ℕ → ℕ → List Float → ℕ → Asked
+tableInput reading n sheet room =
     question1 reading then question2 n then question3 n (length sheet) then question4 n room then numberQuestions reading n sheet
 
--- One entry is asked 1, 2, 3, 5 and 6 to 10.
-unfoldable pub entryQuestions : ℕ → ℕ → List Float → ℕ → ℕ → Asked
-entryQuestions reading n sheet i j =
+unfoldable pub tableQuestions : ℕ → ℕ → List Float → ℕ → Asked
+tableQuestions reading n sheet room = tableInput reading n sheet room then question10 reading n sheet
+
+-- One entry is asked 1, 2, 3, 5, 6, 7, 8, 9 and 10.
+unfoldable pub entryInput : ℕ → ℕ → List Float → ℕ → ℕ → Asked
+entryInput reading n sheet i j =
     question1 reading then question2 n then question3 n (length sheet) then question5 n i j then numberQuestions reading n sheet
+
+unfoldable pub entryQuestions : ℕ → ℕ → List Float → ℕ → ℕ → Asked
+entryQuestions reading n sheet i j = entryInput reading n sheet i j then question10 reading n sheet
 
 -- "A sheet is accepted where every question below that concerns its call is answered yes; where no call is named, the call is that for the whole table, lent room enough."
 unfoldable pub Accepted : ℕ → ℕ → List Float → Type 0
