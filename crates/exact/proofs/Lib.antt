@@ -1,0 +1,10 @@
+pub mod Sums
+pub mod Chains
+pub mod Near
+pub mod Systems
+pub mod Comparison
+pub mod Elimination
+pub mod Perturbation
+pub mod Run
+pub mod Weights
+pub mod Fractions

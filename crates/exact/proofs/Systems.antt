@@ -1,0 +1,73 @@
+-- Laws of a row (Σ T_j z_j is linear in z) and of what a solution and a chain depend on.
+use mathlib.Core.Path.{_≡_, refl, ap, subst}
+use mathlib.Core.Logic.{_≢_}
+use Prim.Native.Nat.{ℕ, zero, suc, _+_, _*_, _<_}
+use native.Mathlib.Omega.{arith}
+use lib.Dec.{T, ltb→lt, lt→ltb}
+use Rattle.exact.specs.Chains.{In}
+use Rattle.exact.specs.Sums.{sum}
+use Rattle.exact.specs.Systems.{Row, System, diag, mix, Holds, Solves, AllOut, moves, exits}
+use Rattle.exact.proofs.Sums.{sum-cong, sum-scale}
+use Rattle.exact.proofs.Chains.{gets-out-mono}
+
+pub mix-cong :
+    (k m : ℕ) (row : Row) (y z : ℕ → ℕ) → ((i : ℕ) → In k m i → y i ≡ z i) → mix k m row y ≡ mix k m row z
+unfolding mix
+mix-cong k m row y z h =
+    sum-cong (λ j. row .size j * y j) (λ j. row .size j * z j) k m (λ j l. ap (λ t. row .size j * t) (h j l))
+
+pub mix-add : (k m : ℕ) (row : Row) (y z : ℕ → ℕ) → mix k m row (λ i. y i + z i) ≡ mix k m row y + mix k m row z
+unfolding mix sum
+mix-add k zero row y z = refl
+mix-add k (suc m) row y z = let h = mix-add (suc k) m row y z in omega arith
+
+pub mix-scale : (k m : ℕ) (row : Row) (z : ℕ → ℕ) (c : ℕ) → mix k m row (λ i. z i * c) ≡ mix k m row z * c
+unfolding mix sum
+mix-scale k zero row z c = omega arith
+mix-scale k (suc m) row z c = let h = mix-scale (suc k) m row z c in omega arith
+
+-- At a constant vector: the diagonal without the exit.
+pub mix-const : (k m : ℕ) (row : Row) (c : ℕ) → row .exit * c + mix k m row (λ i. c) ≡ diag k m row * c
+unfolding mix diag
+mix-const k m row c = let s = sum-scale (row .size) c k m in omega arith
+
+-- The first stage's part.
+pub diag-head : (k m : ℕ) (row : Row) → diag k (suc m) row ≡ row .size k + diag (suc k) m row
+unfolding diag sum
+diag-head k m row = omega arith
+
+pub mix-head : (k m : ℕ) (row : Row) (z : ℕ → ℕ) → mix k (suc m) row z ≡ row .size k * z k + mix (suc k) m row z
+unfolding mix sum
+mix-head k m row z = refl
+
+-- Solutions depend on the rows and the entries in the range alone, and numerators scale with their denominator.
+pub solves-cong :
+    {k m : ℕ} {A B : System} {d : ℕ} {z : ℕ → ℕ}
+    → ((i : ℕ) → In k m i → A i ≡ B i) → Solves k m A d z → Solves k m B d z
+solves-cong {k} {m} {d = d} {z = z} h s =
+    record { row = λ i l. subst (λ row. Holds k m row d z i) (h i l) (s .row i l) }
+
+pub solves-at :
+    {k m : ℕ} {A : System} {d : ℕ} (y z : ℕ → ℕ)
+    → ((i : ℕ) → In k m i → y i ≡ z i) → Solves k m A d y → Solves k m A d z
+solves-at {k} {m} {A} y z h s =
+    record { row = λ i l. rw (← (h i l), ← (mix-cong k m (A i) y z h)) (s .row i l) }
+
+pub solves-scale :
+    {k m : ℕ} {A : System} {d : ℕ} {z : ℕ → ℕ} (c : ℕ) → Solves k m A d z → Solves k m A (d * c) (λ i. z i * c)
+solves-scale {k} {m} {A} {z = z} c s =
+    record { row = λ i l. rw (mix-scale k m (A i) z c) (omega (arith, ap (λ t. t * c) (s .row i l))) }
+
+-- Getting out depends on which numbers are zero, and not on the diagonal.
+pub all-out-mono :
+    {k m : ℕ} {A B : System} → AllOut k m A
+    → ((i j : ℕ) → In k m i → In k m j → i ≢ j → 0 < A i .size j → 0 < B i .size j)
+    → ((i : ℕ) → In k m i → 0 < A i .exit → 0 < B i .exit)
+    → AllOut k m B
+all-out-mono {k} {m} {A} {B} o f g = record { out = λ i l. gets-out-mono move-kept exit-kept l (o .out i l) }
+  where
+    move-kept : (i j : ℕ) → In k m i → In k m j → i ≢ j → T (moves A i j) → T (moves B i j)
+    move-kept i j li lj d t = lt→ltb zero (B i .size j) (f i j li lj d (ltb→lt zero (A i .size j) t))
+
+    exit-kept : (i : ℕ) → In k m i → T (exits A i) → T (exits B i)
+    exit-kept i l t = lt→ltb zero (B i .exit) (g i l (ltb→lt zero (A i .exit) t))

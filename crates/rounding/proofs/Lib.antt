@@ -1,0 +1,15 @@
+pub mod Value
+pub mod Grid
+pub mod Round
+pub mod Compare
+pub mod Operations
+pub mod Laws
+pub mod Order
+pub mod Finite
+pub mod Sums
+pub mod Zeros
+pub mod Range
+pub mod Steps
+pub mod Words
+pub mod Powers
+pub mod Scaling

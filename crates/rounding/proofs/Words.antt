@@ -1,0 +1,51 @@
+-- 64-bit words and numbers: which words are NaN patterns, and the round trips.
+use mathlib.Core.Path.{_≡_, refl, sym, ap, _∙_}
+use Prim.Native.Nat.{ℕ, _%_, _^_, _<_, _≤_}
+use mathlib.Core.Bool.{true, false, not, true≢false}
+use lib.Dec.{T, lt→ltb}
+use lib.Arith.{le→nltb}
+use lib.Ieee.{Float, nan, inf, fin, binary64, fits, isNan, ofBits, toBits, nanBits, div, ne}
+use lib.Ieee.Bits.{ofBits-toBits, toBits-lt, toBits-ofBits, nanBits-is, nanBits-above}
+use lib.Ieee.Compare.{differs-from-itself}
+
+-- The word of plus infinity; above it, the sign taken off, are the NaN patterns.
+abbrev infinity : ℕ
+infinity = 0x7ff0_0000_0000_0000
+
+nan-value : (x : Float) → T (isNan x) → x ≡ nan
+unfolding isNan
+nan-value nan t = refl
+nan-value (inf s) t = absurd t
+nan-value (fin s m e) t = absurd t
+
+zero-over-zero : div binary64 (ofBits binary64 0) (ofBits binary64 0) ≡ nan
+unfolding div ofBits
+zero-over-zero = refl
+
+-- from_word's two ways
+pub nan-word : (w : ℕ) → infinity < w % 0x8000_0000_0000_0000 → div binary64 (ofBits binary64 0) (ofBits binary64 0) ≡ ofBits binary64 w
+nan-word w h = zero-over-zero ∙ sym (nan-value (ofBits binary64 w) (rw (← nanBits-is binary64 w, nanBits-above binary64 w) (lt→ltb infinity (w % 0x8000_0000_0000_0000) h)))
+
+pub number-word : (w : ℕ) → w % 0x8000_0000_0000_0000 ≤ infinity → T (not (nanBits binary64 w))
+number-word w h = rw (nanBits-above binary64 w) (le→nltb infinity (w % 0x8000_0000_0000_0000) h)
+
+-- to_word's two ways
+pub nan-bits : (x : Float) → ne x x ≡ true → 0x7ff8_0000_0000_0000 ≡ toBits binary64 x
+unfolding toBits
+nan-bits x e = sym (ap (toBits binary64) (differs-from-itself x (rw e tt)))
+
+pub not-nan : (x : Float) → ne x x ≡ false → T (not (isNan x))
+unfolding ne isNan
+not-nan nan e = absurd (true≢false e)
+not-nan (inf s) e = tt
+not-nan (fin s m e) h = tt
+
+-- ---- the round trips
+pub word-of-number : (x : Float) → T (fits binary64 x) → ofBits binary64 (toBits binary64 x) ≡ x
+word-of-number x t = ofBits-toBits binary64 x t
+
+pub word-lt : (x : Float) → T (fits binary64 x) → toBits binary64 x < 2 ^ 64
+word-lt x t = toBits-lt binary64 x t
+
+pub number-of-word : (w : ℕ) → w < 2 ^ 64 → T (not (nanBits binary64 w)) → toBits binary64 (ofBits binary64 w) ≡ w
+number-of-word w h n = toBits-ofBits binary64 w h (rw (← nanBits-is binary64 w) n)

@@ -1,0 +1,4 @@
+pub mod Good
+pub mod Laws
+pub mod Steps
+pub mod Scaling

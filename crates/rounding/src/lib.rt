@@ -1,0 +1,85 @@
+// The steps' operations on f64 with their range tests, and 64-bit words as numbers. No function
+// has a `requires`: each contract holds for every f64 and every word.
+ghost use mathlib.Core.Path.{_≡_};
+ghost use lib.Ieee.{binary64, ofBits, toBits};
+ghost use Rattle.definitions.specs.Numbers.{_⊕_, _⊗_, _⊘_, finite, addInRange, mulInRange, divInRange};
+ghost use Rattle.rounding.specs.Steps.{resultInRange};
+
+// Whether x is neither a NaN nor an infinity.
+pub fn is_finite(x: f64) -> bool
+    ensures { λ r. ⌜ r ≡ finite x ⌝ }
+{
+    x - x == 0.0
+}
+
+pub fn add(x: f64, y: f64) -> f64
+    ensures { λ r. ⌜ r ≡ x ⊕ y ⌝ }
+{
+    x + y
+}
+
+pub fn mul(x: f64, y: f64) -> f64
+    ensures { λ r. ⌜ r ≡ x ⊗ y ⌝ }
+{
+    x * y
+}
+
+pub fn div(x: f64, y: f64) -> f64
+    ensures { λ r. ⌜ r ≡ x ⊘ y ⌝ }
+{
+    x / y
+}
+
+pub fn add_in_range(x: f64, y: f64) -> bool
+    ensures { λ r. ⌜ r ≡ addInRange x y ⌝ }
+{
+    is_finite(x + y)
+}
+
+// The test of a product or quotient r of x and y: finite, and above 2^-1022 unless x or y is zero.
+pub fn result_in_range(x: f64, y: f64, r: f64) -> bool
+    ensures { λ q. ⌜ q ≡ resultInRange x y r ⌝ }
+{
+    if !is_finite(r) {
+        return false;
+    }
+    if x == 0.0 {
+        return true;
+    }
+    if y == 0.0 {
+        return true;
+    }
+    2.2250738585072014e-308 < r
+}
+
+pub fn mul_in_range(x: f64, y: f64) -> bool
+    ensures { λ r. ⌜ r ≡ mulInRange x y ⌝ }
+{
+    result_in_range(x, y, x * y)
+}
+
+pub fn div_in_range(x: f64, y: f64) -> bool
+    ensures { λ r. ⌜ r ≡ divInRange x y ⌝ }
+{
+    result_in_range(x, y, x / y)
+}
+
+// The number whose bits are w; every NaN pattern gives the one NaN of the model.
+pub fn from_word(w: u64) -> f64
+    ensures { λ r. ⌜ r ≡ ofBits binary64 w ⌝ }
+{
+    if w % 0x8000_0000_0000_0000 > 0x7ff0_0000_0000_0000 {
+        return 0.0 / 0.0;
+    }
+    f64::from_bits(w)
+}
+
+// The bits of x; a NaN is written as 0x7ff8000000000000.
+pub fn to_word(x: f64) -> u64
+    ensures { λ r. ⌜ r ≡ toBits binary64 x ⌝ }
+{
+    if x != x {
+        return 0x7ff8_0000_0000_0000;
+    }
+    f64::to_bits(x)
+}

@@ -1,0 +1,5 @@
+pub mod Tables
+pub mod LeavingRates
+pub mod Sums
+pub mod Compact
+pub mod Margins

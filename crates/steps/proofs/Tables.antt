@@ -1,0 +1,46 @@
+-- Laws of lists and tables of numbers: `stored` changes no value in range.
+use Prim.Native.Nat.{ℕ, zero, suc, _+_, _*_, _<_, _≤_}
+use native.Mathlib.Nat.{add-zero, zero-add, suc-mul}
+use native.Mathlib.Numerals.{add-one}
+use native.Mathlib.Omega.{arith}
+use mathlib.Core.List.{List, [], _∷_, _++_}
+use mathlib.Core.Path.{_≡_, refl, sym, ap, _∙_}
+use mathlib.Core.Logic.{⊎-elim}
+use lib.ListN.{length, getD, length-append, List·getD-append}
+use lib.Seq.{getD-at, getD-append-add}
+use native.Mathlib.Decide.{decLt}
+use Rattle.definitions.specs.Tables.{list, rows, stored, storedTable}
+
+module _ {A : Type 0} where
+  pub length-list : (f : ℕ → A) (n : ℕ) → length (list f n) ≡ n
+  unfolding list
+  length-list f zero = refl
+  length-list f (suc n) = length-append (list f n) (f n ∷ []) ∙ ap (λ (k : ℕ). k + 1) (length-list f n) ∙ add-one n
+
+  pub list-at : (f : ℕ → A) (other : A) (n i : ℕ) → i < n → getD (list f n) i other ≡ f i
+  unfolding list
+  list-at f other zero i h = absurd (omega arith)
+  list-at f other (suc n) i h = go (decLt i n) (list-at f other n i)
+    where
+      last : ¬ (i < n) → i ≡ n
+      last g = omega arith
+
+      go : Dec (i < n) → (i < n → getD (list f n) i other ≡ f i) → getD (list f n ++ (f n ∷ [])) i other ≡ f i
+      go (yes g) earlier = List·getD-append (list f n) (f n ∷ []) other i (rw length-list g) ∙ earlier g
+      go (no g) earlier = getD-at (list f n) (f n) [] other i (length-list f n ∙ sym (last g)) ∙ ap f (sym (last g))
+
+  pub length-rows : (f : ℕ → ℕ → A) (n m : ℕ) → length (rows f n m) ≡ m * n
+  unfolding rows
+  length-rows f n zero = sym (simp native.Mathlib.Nat.zero-mul)
+  length-rows f n (suc m) =
+      let e : length (rows f n m) + length (list (f m) n) ≡ suc m * n = rw (length-rows f n m, length-list (f m) n, suc-mul) refl in
+      length-append (rows f n m) (list (f m) n) ∙ e
+
+  pub stored-at : (other : A) (n : ℕ) (f : ℕ → A) (i : ℕ) → i < n → stored other n f i ≡ f i
+  unfolding stored
+  stored-at other n f i h = list-at f other n i h
+
+pub storedTable-at : {A : Type 0} (other : A) (n : ℕ) (f : ℕ → ℕ → A) (i j : ℕ) → i < n → j < n → storedTable other n f i j ≡ f i j
+unfolding storedTable
+storedTable-at other n f i j hi hj =
+    ap (λ g. g j) (stored-at (λ j. other) n (λ i. stored other n (f i)) i hi) ∙ stored-at other n (f i) j hj
