@@ -1,6 +1,6 @@
 -- Comparison, and from it uniqueness and the order of solutions.
 use mathlib.Core.Path.{_≡_, ap, subst}
-use mathlib.Core.Logic.{_⊎_, inl, inr}
+use mathlib.Core.Logic.{_≢_, _⊎_, inl, inr}
 use Prim.Native.Nat.{ℕ, zero, suc, _+_, _*_, _^_, _≤_, _<_}
 use native.Mathlib.Nat.{le-refl, le-antisymm, mul-le-mul-left, mul-le-mul-right, le-of-mul-le-mul-left, eq-of-mul-eq-mul-left}
 use native.Mathlib.Decide.{ℕ-discrete, decLe}
@@ -101,6 +101,18 @@ comparison k m A u v o h i l =
           let (j, n, big) = some-largest u v k m i l in
           absurd (follow k m A u v h (o .out j n) n big (omega (arith, big i l)))
     ]
+
+-- Comparison with stage r set apart.
+pub comparison-but :
+    (k m : ℕ) (A : System) → AllOut k m A → (r : ℕ) (u v : ℕ → ℕ) → u r ≤ v r
+    → ((i : ℕ) → In k m i → r ≢ i → RowBelow k m A u v i)
+    → (i : ℕ) → In k m i → u i ≤ v i
+unfolding Comparison
+comparison-but k m A o r u v h rows = comparison k m A u v o row-or-given
+  where
+    row-or-given : (i : ℕ) → In k m i → (u i ≤ v i) ⊎ RowBelow k m A u v i
+    row-or-given i l =
+        elim (ℕ-discrete r i) [ yes e ↦ inl (subst (λ x. u x ≤ v x) e h) | no n ↦ inr (rows i l n) ]
 
 -- Solutions for two right sides, each over its denominator and times its factor. The system's own right side plays no part.
 module _ (k m : ℕ) (A : System) (o : AllOut k m A) where

@@ -134,16 +134,20 @@ near-sum-down acc f k (suc m) h =
     let e : acc (suc k + m) ≡ acc (k + suc m) = ap acc (omega arith) in
     subst (Near (suc m) (acc k)) (omega arith) (near-grow {e = 1 + m} (omega arith) (near-trans (h k first) more))
 
--- An elimination step made of a quotient, a product and a sum, each within one rounding, with a pivot q within e of p:
--- r = t/q, s = r·y, x′ = x + s, where u is the unit of the numbers. It is within e + 3 of x + t·y/p.
+-- A quotient r = t/q and a product s = r·y, each within one rounding, where u is the unit of the numbers: s is within two
+-- of t·y/q. With a sum x′ = x + s and a pivot q within e of p: x′ is within e + 3 of x + t·y/p.
+pub near-term :
+    {u : ℕ} (q r s t y : ℕ) → 0 < u → Near 1 (r * q) (t * u) → Near 1 (s * u) (r * y) → Near 2 (s * q) (t * y)
+near-term {u} q r s t y pos hr hs =
+    let a : Near 1 (s * q * u) (r * q * y) = rw (mul-right-comm s q u, mul-right-comm r q y) (near-scale q hs) in
+    let b : Near 1 (r * q * y) (t * y * u) = rw (mul-right-comm t y u) (near-scale y hr) in
+    near-cancel pos (near-trans a b)
+
 pub near-step :
     {e p q u x′ : ℕ} (r s t x y : ℕ) → 0 < u → Near e p q
     → Near 1 (r * q) (t * u) → Near 1 (s * u) (r * y) → Near 1 x′ (x + s)
     → Near (e + 3) (x′ * p) (x * p + t * y)
-near-step {e} {p} {q} {u} {x′} r s t x y pos hp hr hs hx =
-    let a : Near 1 (s * q * u) (r * q * y) =
-    rw (mul-right-comm s q u, mul-right-comm r q y) (near-scale q hs) in
-    let b : Near 1 (r * q * y) (t * y * u) = rw (mul-right-comm t y u) (near-scale y hr) in
-    let c : Near (e + 2) (s * p) (t * y) = near-divide s (near-cancel pos (near-trans a b)) hp in
-    let f : Near 1 (x′ * p) (x * p + s * p) = rw (← (add-mul x s p)) (near-scale p hx) in
-    near-grow {e = 1 + (e + 2)} (omega arith) (near-trans f (near-add near-refl c))
+near-step {e} {p} {q} {x′ = x′} r s t x y pos hp hr hs hx =
+    let a : Near (e + 2) (s * p) (t * y) = near-divide s (near-term q r s t y pos hr hs) hp in
+    let b : Near 1 (x′ * p) (x * p + s * p) = rw (← (add-mul x s p)) (near-scale p hx) in
+    near-grow {e = 1 + (e + 2)} (omega arith) (near-trans b (near-add near-refl a))

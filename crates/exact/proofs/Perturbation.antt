@@ -1,6 +1,6 @@
 -- One row changed, and all rows changed one after the other.
 use mathlib.Core.Path.{_≡_, refl, sym, _∙_, ap, subst}
-use mathlib.Core.Logic.{_≢_, _⊎_, inl, inr}
+use mathlib.Core.Logic.{_≢_, inl, inr}
 use Prim.Native.Nat.{ℕ, zero, suc, _+_, _*_, _-_, _^_, _≤_, _<_}
 use native.Mathlib.Nat.{add-suc, le-refl, mul-comm, sub-self, mul-le-mul-left, eq-zero-or-pos}
 use native.Mathlib.Decide.{ℕ-discrete, decLe, decLt}
@@ -13,7 +13,7 @@ use Rattle.exact.specs.Elimination.{Existence}
 use Rattle.exact.specs.Perturbation.{NearMoves, NearRow, OneRow, AllRows}
 use Rattle.exact.proofs.Near.{base≤next, near-eq, near-refl, near-sym, near-trans, near-grow, near-scale, near-scale-left, near-cancel, near-through, near-add, near-sum, near-pos}
 use Rattle.exact.proofs.Systems.{mix-cong, mix-add, mix-scale, mix-const, solves-cong, solves-at, solves-scale, all-out-mono}
-use Rattle.exact.proofs.Comparison.{comparison, uniqueness}
+use Rattle.exact.proofs.Comparison.{comparison, comparison-but, uniqueness}
 use Rattle.exact.proofs.Elimination.{existence}
 
 pub near-moves-refl : {e k m r : ℕ} {x : Row} → NearMoves e k m r x x
@@ -50,18 +50,6 @@ mix-sub :
     → mix k m row (λ j. y j - z j) + mix k m row z ≡ mix k m row y
 mix-sub k m row y z h =
     sym (mix-add k m row (λ j. y j - z j) z) ∙ mix-cong k m row (λ j. y j - z j + z j) y (λ j l. omega (arith, h j l))
-
--- Comparison with stage r set apart.
-pub comparison-but :
-    (k m : ℕ) (A : System) → AllOut k m A → (r : ℕ) (u v : ℕ → ℕ) → u r ≤ v r
-    → ((i : ℕ) → In k m i → r ≢ i → RowBelow k m A u v i)
-    → (i : ℕ) → In k m i → u i ≤ v i
-unfolding Comparison
-comparison-but k m A o r u v h rows = comparison k m A u v o row-or-given
-  where
-    row-or-given : (i : ℕ) → In k m i → (u i ≤ v i) ⊎ RowBelow k m A u v i
-    row-or-given i l =
-        elim (ℕ-discrete r i) [ yes e ↦ inl (subst (λ x. u x ≤ v x) e h) | no n ↦ inr (rows i l n) ]
 
 -- Two vectors that satisfy every row but row r are in the order that they have at r.
 spread :

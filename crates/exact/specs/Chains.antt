@@ -1,6 +1,6 @@
 -- Chains of moves between stages (document 01, question 9). The stages are the m numbers from k on.
 use Prim.Native.Nat.{ℕ, zero, suc, _+_, _≤_, _<_}
-use mathlib.Core.Bool.{Bool, true, false, _&&_, _||_}
+use mathlib.Core.Bool.{Bool, false, _&&_, _||_}
 use mathlib.Core.Logic.{_↔_}
 use lib.Dec.{T}
 
