@@ -1,0 +1,2 @@
+pub mod LeavingRates
+pub mod Pivots
