@@ -21,6 +21,7 @@ use Rattle.definitions.specs.Questions.{Asked, pass, refuse, _then_, ask, askRo
 use Rattle.rounding.specs.Good.{Good}
 use Rattle.rounding.proofs.Laws.{zero-is-good, units-zero, is-zero}
 use Rattle.rounding.proofs.Order.{lt-units}
+use Rattle.rounding.proofs.Reversed.{le-not-above}
 use Rattle.rounding.proofs.Zeros.{IsSize, plus-zero, size-of-negative, size-of-positive}
 use Rattle.accuracy.specs.LeavingRates.{GoodSystem, StagesGetOut}
 
@@ -127,7 +128,8 @@ module _ (reading n : ℕ) (sheet : List Float) (fit : Binary64 sheet) (e : numb
   unfolding rightSign size Binary64
   size-is i j hi hj d =
       let off : eqb i j ≡ false = is-false (eqb i j) (not-T (eqb i j) (λ t. d (eqb→eq i j t))) in
-      size-of-negative (place n sheet i j) (fit (i * n + j)) (number-finite i j hi hj) (rw off at (number-sign i j hi hj))
+      size-of-negative (place n sheet i j) (fit (i * n + j)) (number-finite i j hi hj)
+      (le-not-above (place n sheet i j) 0·0 (rw off at (number-sign i j hi hj)))
 
   diagonal-sign : (i : ℕ) → i < n → T (cond (eqb reading 1) (le 0·0 (place n sheet i i)) (lt 0·0 (place n sheet i i)))
   unfolding rightSign
@@ -136,7 +138,8 @@ module _ (reading n : ℕ) (sheet : List Float) (fit : Binary64 sheet) (e : numb
   pub diagonal-is : (i : ℕ) → i < n → IsSize (place n sheet i i) (diagonal n sheet i)
   unfolding diagonal Binary64
   diagonal-is i h =
-      size-of-positive (place n sheet i i) (fit (i * n + i)) (number-finite i i h h) (either (eqb reading 1) (diagonal-sign i h))
+      size-of-positive (place n sheet i i) (fit (i * n + i)) (number-finite i i h h)
+      (le-not-above 0·0 (place n sheet i i) (either (eqb reading 1) (diagonal-sign i h)))
     where
       either : (c : Bool) → T (cond c (le 0·0 (place n sheet i i)) (lt 0·0 (place n sheet i i))) → T (le 0·0 (place n sheet i i))
       either true t = t

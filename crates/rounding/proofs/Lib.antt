@@ -5,6 +5,7 @@ pub mod Compare
 pub mod Operations
 pub mod Laws
 pub mod Order
+pub mod Reversed
 pub mod Finite
 pub mod Sums
 pub mod Zeros
