@@ -6,3 +6,11 @@ pub mod LeavingRatesColumn
 pub mod LeavingRatesUpward
 pub mod LeavingRates
 pub mod Input
+pub mod Integers
+pub mod PartialSums
+pub mod Fractions
+pub mod Reduction
+pub mod Ratios
+pub mod RowForms
+pub mod Scaled
+pub mod Readings

@@ -1,0 +1,89 @@
+-- From whole numbers to the accuracy rule: what is to be shown of a matrix and a table in whole numbers, so that the rule
+-- over signed fractions follows.
+use mathlib.Core.Path.{_≡_}
+use mathlib.Core.Bool.{Bool, not, cond}
+use Prim.Native.Nat.{ℕ, suc, _+_, _*_, _<_}
+use lib.Dec.{T, eqb}
+use lib.IntN.{ℤ, pos, negsuc}
+use lib.Ieee.{Float}
+use Rattle.exact.specs.Near.{Near}
+use Rattle.exact.specs.Sums.{sum}
+use Rattle.exact.specs.Systems.{System, diag, Solves, AllOut, withRight}
+use Rattle.definitions.specs.Numbers.{units}
+use Rattle.definitions.specs.Fractions.{Fraction}
+use Rattle.definitions.specs.Matrix.{Stage, everyStage}
+use Rattle.definitions.specs.Accuracy.{Accurate}
+use Rattle.rounding.specs.Good.{Good, one·units}
+
+-- An integer is the difference of its two parts.
+abbrev pub plusPart : ℤ → ℕ
+plusPart (pos n) = n
+plusPart (negsuc n) = 0
+
+abbrev pub minusPart : ℤ → ℕ
+minusPart (pos n) = 0
+minusPart (negsuc n) = suc n
+
+-- x = (p − q)/d, multiplied across.
+pub record Ratio (x : Fraction) (p q d : ℕ) : Type 0 where
+  pub across : plusPart (x .num) * d + q * x .den ≡ p * x .den + minusPart (x .num) * d
+
+-- c where i = j, and 0 elsewhere.
+abbrev pub delta : ℕ → ℕ → ℕ → ℕ
+delta i j c = cond (eqb i j) c 0
+
+-- Row i of the matrix, multiplied by c_i: −t_ij off the diagonal and a_i − t_ii on it. Any t_ii will do, with its a_i.
+pub record RowForm (n : ℕ) (A : ℕ → ℕ → Fraction) (a : ℕ → ℕ) (t : ℕ → ℕ → ℕ) (c : ℕ → ℕ) : Type 0 where
+  pub positive : (i : ℕ) → i < n → 0 < c i
+  pub entry : (i j : ℕ) → i < n → j < n → Ratio (A i j) (delta i j (a i)) (t i j) (c i)
+
+-- For each column j a vector z_j over the denominator Z_j, whose image under row i is c_i where i = j, and 0 elsewhere.
+pub record Columns
+    (n : ℕ) (on : ℕ → Bool) (a : ℕ → ℕ) (t : ℕ → ℕ → ℕ) (c : ℕ → ℕ) (Z : ℕ → ℕ) (z : ℕ → ℕ → ℕ) : Type 0 where
+  pub positive : (j : ℕ) → Stage n on j → 0 < Z j
+  pub row :
+      (i j : ℕ) → Stage n on i → Stage n on j
+      → a i * z j i ≡ delta i j (c i) * Z j + sum (λ k. t i k * z j k) 0 n
+
+-- Vectors with equal images are equal; each term stands on the side where it is added.
+unfoldable pub Regular : ℕ → (ℕ → Bool) → (ℕ → ℕ) → (ℕ → ℕ → ℕ) → Type 0
+Regular n on a t =
+    (p q : ℕ → ℕ)
+    → ((i : ℕ) → Stage n on i → a i * p i + sum (λ k. t i k * q k) 0 n ≡ a i * q i + sum (λ k. t i k * p k) 0 n)
+    → (i : ℕ) → Stage n on i → p i ≡ q i
+
+-- No size leads from a stage that takes part to one that does not.
+unfoldable pub Apart : ℕ → (ℕ → Bool) → (ℕ → ℕ → ℕ) → Type 0
+Apart n on t = (i j : ℕ) → Stage n on i → j < n → T (not (on j)) → t i j ≡ 0
+
+-- Each number of the table is good, and within E roundings of z_ji / Z_j.
+pub record NearTable (n : ℕ) (on : ℕ → Bool) (E : ℕ) (x : ℕ → ℕ → Float) (Z : ℕ → ℕ) (z : ℕ → ℕ → ℕ) : Type 0 where
+  pub good : (i j : ℕ) → Stage n on i → Stage n on j → Good (x i j)
+  pub near : (i j : ℕ) → Stage n on i → Stage n on j → Near E (units (x i j) * Z j) (z j i * one·units)
+
+-- Theorem: the rule follows.
+unfoldable pub Reduction : Type 0
+Reduction =
+    (n : ℕ) (on : ℕ → Bool) (E : ℕ) (A : ℕ → ℕ → Fraction) (x : ℕ → ℕ → Float)
+    (a : ℕ → ℕ) (t : ℕ → ℕ → ℕ) (c : ℕ → ℕ) (Z : ℕ → ℕ) (z : ℕ → ℕ → ℕ)
+    → RowForm n A a t c
+    → Apart n on t
+    → Columns n on a t c Z z
+    → Regular n on a t
+    → NearTable n on E x Z z
+    → Accurate n on E A x
+
+-- The columns as solutions of one system, whose right side is column j of the identity, times c_i.
+pub record SystemColumns (n : ℕ) (S : System) (c : ℕ → ℕ) (Z : ℕ → ℕ) (z : ℕ → ℕ → ℕ) : Type 0 where
+  pub positive : (j : ℕ) → j < n → 0 < Z j
+  pub solves : (j : ℕ) → j < n → Solves 0 n (withRight S (λ i. delta i j (c i))) (Z j) (z j)
+
+-- Theorem: the rule for a system that gets out.
+unfoldable pub SystemReduction : Type 0
+SystemReduction =
+    (n E : ℕ) (A : ℕ → ℕ → Fraction) (x : ℕ → ℕ → Float) (S : System) (c : ℕ → ℕ) (Z : ℕ → ℕ) (z : ℕ → ℕ → ℕ)
+    → RowForm n A (λ i. diag 0 n (S i)) (λ i. S i .size) c
+    → AllOut 0 n S
+    → SystemColumns n S c Z z
+    → NearTable n everyStage E x Z z
+    → Accurate n everyStage E A x
