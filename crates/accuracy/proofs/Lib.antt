@@ -14,3 +14,15 @@ pub mod Ratios
 pub mod RowForms
 pub mod Scaled
 pub mod Readings
+pub mod MarginsExact
+pub mod MarginsJoins
+pub mod MarginsStart
+pub mod MarginsRange
+pub mod MarginsSums
+pub mod MarginsCounts
+pub mod MarginsRatios
+pub mod MarginsPacked
+pub mod MarginsKept
+pub mod MarginsEntries
+pub mod Margins
+pub mod Rule

@@ -5,3 +5,4 @@ pub mod Ratios
 pub mod RowForms
 pub mod Scaled
 pub mod Readings
+pub mod Margins

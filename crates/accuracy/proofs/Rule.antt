@@ -1,0 +1,141 @@
+-- The accuracy rule of document 01, for both readings.
+use Prim.Native.Nat.{ℕ, zero, suc, _+_, _*_, _^_, _<_, _≤_}
+use native.Mathlib.Nat.{pow-suc, pow-zero, one-mul}
+use native.Mathlib.Omega.{arith}
+use mathlib.Core.Bool.{Bool, true, false, _||_, cond}
+use mathlib.Core.List.{List}
+use mathlib.Core.Logic.{_⊎_, inl, inr, ⊎-elim}
+use mathlib.Core.Path.{_≡_, refl, sym, subst}
+use lib.Dec.{T, eqb, eqb→eq}
+use lib.ListN.{length}
+use lib.Ieee.{Float}
+use Rattle.exact.specs.Systems.{System, withRight, Solves, AllOut}
+use Rattle.exact.specs.Elimination.{Existence}
+use Rattle.exact.proofs.Elimination.{existence}
+use Rattle.exact.proofs.Near.{near-grow}
+use Rattle.definitions.specs.LeavingRates.{downward, quotient, inRange}
+use Rattle.definitions.specs.Margins as Margins
+use Rattle.definitions.specs.Sheet.{size, diagonal, system, allowance}
+use Rattle.definitions.specs.Matrix.{matrix, Stage, everyStage}
+use Rattle.definitions.specs.Table.{entry, everyStepInRange}
+use Rattle.definitions.specs.Accuracy.{Binary64, Accurate, AccuracyRule}
+use Rattle.definitions.specs.Questions.{Asked, pass, question1, question2, question3, question4, question10, numberQuestions, tableInput, tableQuestions, Accepted, _then_}
+use Rattle.rounding.specs.Good.{one·units}
+use Rattle.accuracy.specs.LeavingRates.{inUnits, identityColumn, Computed, EngineWithin, EngineAccuracy}
+use Rattle.accuracy.specs.Reduction.{delta, SystemColumns, NearTable}
+use Rattle.accuracy.specs.Ratios.{RatiosExist}
+use Rattle.accuracy.specs.RowForms.{InUnits}
+use Rattle.accuracy.specs.Readings.{LeavingRatesReduced, MarginsReduced}
+use Rattle.accuracy.specs.Margins.{GoodMargins, sizesInUnits, marginsInUnits, MarginsAccuracy}
+use Rattle.accuracy.proofs.Input.{then-first, then-next, ask-yes, table-numbers, size-is, diagonal-is, input-good, input-positive, input-out}
+use Rattle.accuracy.proofs.Range.{table-shared, table-column}
+use Rattle.accuracy.proofs.LeavingRates.{engine-accuracy}
+use Rattle.accuracy.proofs.Ratios.{ratios-exist}
+use Rattle.accuracy.proofs.Readings.{leaving-rates-reduced, margins-reduced}
+use Rattle.accuracy.proofs.Margins.{margins-accuracy}
+
+cube : (n : ℕ) → n ^ 3 ≡ n * n * n
+cube n = rw (pow-suc, pow-suc, pow-suc, pow-zero, one-mul)
+
+-- Reading 1: the exact solution of each column exists, and the engine's quotients are near it.
+module _ (n : ℕ) (sheet : List Float) (fit : Binary64 sheet) (e : numberQuestions 1 n sheet ≡ pass) where
+  equations : System
+  equations = inUnits (system n sheet) (λ i. zero)
+
+  gets-out : AllOut 0 n equations
+  unfolding equations
+  gets-out = input-out n sheet fit e
+
+  solution : (j : ℕ) → (d : ℕ) × (z : ℕ → ℕ) × (0 < d) × Solves 0 n (withRight equations (λ i. delta i j one·units)) d z
+  unfolding equations Existence
+  solution j = existence 0 n (withRight equations (λ i. delta i j one·units)) (record { out = gets-out .out })
+
+  pub first-reading :
+      T (inRange n (downward n (system n sheet)))
+      → Accurate n everyStage (4 * (n * n * n)) (matrix 1 n sheet) (quotient n (downward n (system n sheet)))
+  unfolding LeavingRatesReduced EngineAccuracy EngineWithin identityColumn equations system
+  first-reading r =
+      leaving-rates-reduced n (4 * (n * n * n)) sheet (quotient n (downward n (system n sheet))) equations
+      (λ j. solution j .0) (λ j. solution j .1) units-of gets-out columns table
+    where
+      computed : (i j : ℕ) → i < n → j < n → Computed (2 * (n * n * n)) (quotient n (downward n (system n sheet)) i j) (solution j .1 i) (solution j .0)
+      computed i j hi hj =
+          engine-accuracy n j (system n sheet) (input-good 1 n sheet fit e) (input-out n sheet fit e) (table-shared n (downward n (system n sheet)) r) (table-column n (downward n (system n sheet)) r j hj)
+          (solution j .0) (solution j .1) (solution j .3) i hi
+
+      units-of : InUnits n sheet (λ i. equations i .size) (λ i. equations i .exit)
+      units-of = record { size-good = λ i j hi hj o. size-is 1 n sheet fit e i j hi hj o .good; size-units = λ i j hi hj o. refl; diagonal-good = λ i h. diagonal-is 1 n sheet fit e i h .good; diagonal-units = λ i h. refl }
+
+      columns : SystemColumns n equations (λ i. one·units) (λ j. solution j .0) (λ j. solution j .1)
+      columns = record { positive = λ j h. solution j .2; solves = λ j h. solution j .3 }
+
+      table : NearTable n everyStage (4 * (n * n * n)) (quotient n (downward n (system n sheet))) (λ j. solution j .0) (λ j. solution j .1)
+      table =
+          record {
+            good = λ i j si sj. computed i j (si .below) (sj .below) .good;
+            near = λ i j si sj. near-grow {e = 2 * (n * n * n)} (omega arith) (computed i j (si .below) (sj .below) .near);
+          }
+
+-- Reading 2: the ratios exist, and the margins' entries are near the solutions that they give.
+pub second-reading :
+    (n : ℕ) (sheet : List Float) → Binary64 sheet → numberQuestions 2 n sheet ≡ pass
+    → T (Margins.marginsInRange n (size n sheet) (diagonal n sheet))
+    → Accurate n everyStage (12 * (n * n * n)) (matrix 2 n sheet) (Margins.entry n (size n sheet) (diagonal n sheet))
+unfolding MarginsAccuracy MarginsReduced RatiosExist
+second-reading n sheet fit e r =
+    let t = size n sheet in
+    let d = diagonal n sheet in
+    let good : GoodMargins n t d =
+    record { size = λ i j hi hj o. size-is 2 n sheet fit e i j hi hj o .good; margin = λ i h. diagonal-is 2 n sheet fit e i h .good } in
+    let units-of : InUnits n sheet (sizesInUnits t) (marginsInUnits d) =
+    record { size-good = good .size; size-units = λ i j hi hj o. refl; diagonal-good = good .margin; diagonal-units = λ i h. refl } in
+    let (D, K, ratios) = ratios-exist n (sizesInUnits t) (marginsInUnits d) (input-positive n sheet fit e) in
+    let v = margins-accuracy n t d D K good r ratios in
+    margins-reduced n (12 * (n * n * n)) sheet (Margins.entry n t d) (sizesInUnits t) (marginsInUnits d) D K (v .Z) (v .z) units-of ratios (v .columns) (v .table)
+
+-- Question 1 leaves two readings.
+reading-is : (reading : ℕ) → question1 reading ≡ pass → (reading ≡ 1) ⊎ (reading ≡ 2)
+unfolding question1
+reading-is reading e =
+    go (eqb reading 1) (eqb reading 2) (eqb→eq reading 1) (eqb→eq reading 2) (ask-yes (eqb reading 1 || eqb reading 2) 1 0 0 e)
+  where
+    go : (a b : Bool) → (T a → reading ≡ 1) → (T b → reading ≡ 2) → T (a || b) → (reading ≡ 1) ⊎ (reading ≡ 2)
+    go true b f g t = inl (f tt)
+    go false true f g t = inr (g tt)
+    go false false f g t = absurd t
+
+-- The tables of the two readings, under the table's own names.
+first-table :
+    (n : ℕ) (sheet : List Float) → Binary64 sheet → numberQuestions 1 n sheet ≡ pass → T (everyStepInRange 1 n sheet)
+    → Accurate n everyStage (allowance 1 n) (matrix 1 n sheet) (entry 1 n sheet)
+unfolding everyStepInRange entry allowance
+first-table n sheet fit e r =
+    subst (λ E. Accurate n everyStage (4 * E) (matrix 1 n sheet) (entry 1 n sheet)) (sym (cube n)) (first-reading n sheet fit e r)
+
+second-table :
+    (n : ℕ) (sheet : List Float) → Binary64 sheet → numberQuestions 2 n sheet ≡ pass → T (everyStepInRange 2 n sheet)
+    → Accurate n everyStage (allowance 2 n) (matrix 2 n sheet) (entry 2 n sheet)
+unfolding everyStepInRange entry allowance
+second-table n sheet fit e r =
+    subst (λ E. Accurate n everyStage (12 * E) (matrix 2 n sheet) (entry 2 n sheet)) (sym (cube n)) (second-reading n sheet fit e r)
+
+-- Both readings at once, from the questions of the numbers and the range of every step.
+pub accurate-table :
+    (reading n : ℕ) (sheet : List Float) → Binary64 sheet → question1 reading ≡ pass → numberQuestions reading n sheet ≡ pass
+    → T (everyStepInRange reading n sheet)
+    → Accurate n everyStage (allowance reading n) (matrix reading n sheet) (entry reading n sheet)
+accurate-table reading n sheet fit q e r =
+    ⊎-elim
+    (λ one. rw one (first-table n sheet fit (rw one at e) (rw one at r)))
+    (λ two. rw two (second-table n sheet fit (rw two at e) (rw two at r)))
+    (reading-is reading q)
+
+pub accuracy-rule : AccuracyRule
+unfolding AccuracyRule Accepted tableQuestions tableInput question10
+accuracy-rule reading n sheet fit accepted =
+    let input : tableInput reading n sheet (n * n) ≡ pass = then-first (tableInput reading n sheet (n * n)) (question10 reading n sheet) accepted in
+    let range : question10 reading n sheet ≡ pass = then-next (tableInput reading n sheet (n * n)) (question10 reading n sheet) accepted in
+    accurate-table reading n sheet fit
+    (then-first (question1 reading) (question2 n then question3 n (length sheet) then question4 n (n * n) then numberQuestions reading n sheet) input)
+    (table-numbers reading n sheet (n * n) input)
+    (ask-yes (everyStepInRange reading n sheet) 10 0 0 range)

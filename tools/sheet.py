@@ -1,0 +1,757 @@
+#!/usr/bin/env python3
+"""Sheet files for planners: made from text, shown as text, and dwell's output laid out as a table.
+
+`sheet.py make --help` describes the text forms; document 01 describes the sheet file and the refusals.
+Stages are numbered from 0 in the code and from 1 in files and messages.
+"""
+from __future__ import annotations
+
+import argparse
+import csv
+import math
+import os
+import re
+import struct
+import sys
+from dataclasses import dataclass, field
+from decimal import ROUND_UP, Context, Decimal
+from typing import Iterator, NamedTuple, Sequence
+
+LIMIT = 32                 # the most stages of a sheet
+LONGEST_FILE = 8458        # the most bytes of a sheet file
+LONGEST_TEXT = 1 << 20     # the most bytes read of a text or of dwell's output
+SMALLEST = 2.0 ** -1022    # the smallest size of a number that is not zero
+LEAVING_RATES, MARGINS = 1, 2
+READINGS = {"leaving-rates": LEAVING_RATES, "margins": MARGINS}
+DIAGONAL_WORDS = {"leaves": LEAVING_RATES, "margin": MARGINS}
+FIRST_WORDS = ("reading", "stage", "stages")
+SEPARATORS = ("\t", ";", ",")   # between the cells of a matrix
+
+
+class Problem(Exception):
+    """Ends the command with this one-line message and exit status 1."""
+
+
+# ==== Numbers ====
+
+DECIMAL = re.compile(r"[+-]?([0-9]+\.?[0-9]*|\.[0-9]+)([eE][+-]?[0-9]+)?")
+HEXADECIMAL = re.compile(r"[+-]?0[xX]([0-9a-fA-F]+\.?[0-9a-fA-F]*|\.[0-9a-fA-F]+)([pP][+-]?[0-9]+)?")
+
+
+def read_number(text: str) -> float:
+    """The binary64 number nearest to a decimal or hexadecimal text; ValueError says what is wrong."""
+    decimal, hexadecimal = DECIMAL.fullmatch(text), HEXADECIMAL.fullmatch(text)
+    if decimal:
+        number, digits = float(text), decimal[1]
+    elif hexadecimal:
+        number, digits = hexadecimal_number(text), hexadecimal[1]
+    else:
+        raise ValueError(f"{text!r} is not a number (write it like 0.25, 1e-6 or 0x1p-20)")
+    if math.isinf(number):
+        raise ValueError(f"{text!r} is too large (a number stays below 2^1024, about 1.8e308)")
+    if abs(number) < SMALLEST and digits.strip("0."):
+        raise ValueError(f"{text!r} is too small (a number is zero or at least 2^-1022, about 2.2e-308)")
+    return number
+
+
+def hexadecimal_number(text: str) -> float:
+    """The number nearest to a hexadecimal text, infinite where it is too large."""
+    try:
+        return float.fromhex(text)
+    except OverflowError:
+        return math.inf
+
+
+def shortest(number: float) -> str:
+    """The shortest decimal that reads back as this number."""
+    return repr(number).removesuffix(".0")
+
+
+def exact(number: float) -> str:
+    """The number as a C99 hexadecimal float, as printf's %a writes it."""
+    return re.sub(r"\.?0*p", "p", number.hex()) if math.isfinite(number) else repr(number)
+
+
+def word_of(number: float) -> int:
+    """The 64 bits of a number."""
+    return struct.unpack("<Q", struct.pack("<d", number))[0]
+
+
+def number_of(word: int) -> float:
+    """The number with these 64 bits."""
+    return struct.unpack("<d", struct.pack("<Q", word))[0]
+
+
+# ==== What a text says ====
+
+class Given(NamedTuple):
+    """A number and the line that gives it."""
+    number: float
+    line: int
+
+
+@dataclass
+class Draft:
+    """What a text has said so far, with the lines that said it."""
+    source: str
+    reading: int
+    names: list[str] = field(default_factory=list)
+    lines: list[int] = field(default_factory=list)      # where each stage is named, or has its row
+    rates: dict[tuple[int, int], Given] = field(default_factory=dict)
+    diagonal: dict[int, Given] = field(default_factory=dict)
+
+    def problem(self, line: int, message: str) -> Problem:
+        """A problem with its place."""
+        return problem_at(self.source, line, message)
+
+    def add_stage(self, name: str, line: int) -> None:
+        """Takes one more stage."""
+        check_name(self.source, line, name)
+        if name in self.names:
+            first = self.lines[self.names.index(name)]
+            raise self.problem(line, f"stage {name!r} is named twice (first on line {first})")
+        if len(self.names) == LIMIT:
+            raise self.problem(line, f"stage {name!r} is one too many: a sheet has at most {LIMIT} stages")
+        self.names.append(name)
+        self.lines.append(line)
+
+    def stage(self, name: str, line: int) -> int:
+        """The number of a stage that was named before."""
+        if name not in self.names:
+            raise self.problem(line, f"unknown stage {name!r}")
+        return self.names.index(name)
+
+    def number(self, text: str, line: int) -> float:
+        """A typed number that is zero or positive."""
+        try:
+            number = read_number(text)
+        except ValueError as error:
+            raise self.problem(line, str(error)) from None
+        if number < 0.0:
+            raise self.problem(line, f"{text!r} is negative (rates are typed as positive numbers)")
+        return abs(number)
+
+    def add_rate(self, i: int, j: int, text: str, line: int) -> None:
+        """Takes the rate from stage i to stage j."""
+        where = f"from {self.names[i]!r} to {self.names[j]!r}"
+        if i == j:
+            raise self.problem(line, f"stage {self.names[i]!r} has a rate to itself")
+        if (i, j) in self.rates:
+            first = self.rates[i, j].line
+            raise self.problem(line, f"the rate {where} is given twice (first on line {first})")
+        self.rates[i, j] = Given(self.number(text, line), line)
+
+    def add_diagonal(self, i: int, text: str, line: int) -> None:
+        """Takes the leaving rate or the margin of stage i."""
+        what = f"the {'leaving rate' if self.reading == LEAVING_RATES else 'margin'} of {self.names[i]!r}"
+        if i in self.diagonal:
+            first = self.diagonal[i].line
+            raise self.problem(line, f"{what} is given twice (first on line {first})")
+        number = self.number(text, line)
+        if self.reading == MARGINS and number == 0.0:
+            raise self.problem(line, f"{what} is zero (margins are positive)")
+        self.diagonal[i] = Given(number, line)
+
+
+def problem_at(source: str, line: int, message: str) -> Problem:
+    """A problem with its place."""
+    return Problem(f"{source}:{line}: {message}")
+
+
+def check_name(source: str, line: int, name: str) -> None:
+    """A name is not empty, can be printed and holds no double quote."""
+    if not name:
+        raise problem_at(source, line, "a stage has an empty name")
+    if not name.isprintable() or '"' in name:
+        raise problem_at(source, line, f"the name {name!r} holds a double quote or a character that is not printable")
+
+
+def read_text(source: str, data: bytes) -> Draft:
+    """The draft of a text in either form."""
+    lines = decode(source, data).replace("\r\n", "\n").replace("\r", "\n").split("\n")
+    for at, line in enumerate(lines, 1):
+        if is_skipped(line):
+            continue
+        first = line.split()[0]
+        if first == "reading":
+            return read_lines(source, lines)
+        if separator_of(line) is None or (first in FIRST_WORDS and "\t" not in line):
+            raise problem_at(source, at, "a text begins with 'reading leaving-rates', 'reading margins' or "
+                                         "a header row of stage names")
+        return read_matrix(source, lines)
+    raise problem_at(source, len(lines), "the text is empty")
+
+
+def is_skipped(line: str) -> bool:
+    """Whether a line is blank, a row of empty cells or a comment (a spreadsheet may quote that)."""
+    return re.fullmatch(r'[\s,;]*|\s*"?\s*#.*', line) is not None
+
+
+def decode(source: str, data: bytes) -> str:
+    """The text of UTF-8 bytes, with or without a byte order mark."""
+    try:
+        return data.decode("utf-8-sig")
+    except UnicodeDecodeError as error:
+        raise problem_at(source, data[:error.start].count(b"\n") + 1, "this is not UTF-8 text") from None
+
+
+# ==== The form with a line for each rate ====
+
+BARE_WORD = r'(?:(?!->)[^\s",;#])+'
+TOKEN = re.compile(rf'\s*("[^"]*"|->|[,;]|{BARE_WORD}|#.*|$)')
+
+
+def split_line(source: str, at: int, line: str) -> list[str]:
+    """The words of a line without its comment; quoted names keep their quotes."""
+    words: list[str] = []
+    place = 0
+    while place < len(line):
+        token = TOKEN.match(line, place)
+        if token is None:
+            raise problem_at(source, at, "a double quote is not closed")
+        if token[1] and not token[1].startswith("#"):
+            words.append(token[1])
+        place = token.end()
+    return words
+
+
+def read_lines(source: str, lines: Sequence[str]) -> Draft:
+    """The draft of a text in lines: the reading first, then stages, rates and leaving rates or margins."""
+    draft: Draft | None = None
+    for at, line in enumerate(lines, 1):
+        words = split_line(source, at, line)
+        if words and draft is None:
+            draft = Draft(source, take_reading(source, at, words))
+        elif words and draft is not None:
+            take_line(draft, at, line, words)
+    if draft is None or not draft.names:
+        raise problem_at(source, len(lines), "no stage is named")
+    return draft
+
+
+def take_reading(source: str, at: int, words: Sequence[str]) -> int:
+    """The reading that the first line names."""
+    if len(words) != 2 or words[1] not in READINGS:
+        raise problem_at(source, at, "the reading is 'leaving-rates' or 'margins'")
+    return READINGS[words[1]]
+
+
+def take_line(draft: Draft, at: int, line: str, words: Sequence[str]) -> None:
+    """Takes one line after the reading."""
+    if len(words) == 4 and words[1] == "->":
+        i, j = (draft.stage(bare(word), at) for word in (words[0], words[2]))
+        draft.add_rate(i, j, words[3], at)
+    elif words[0] == "reading":
+        raise draft.problem(at, "the reading is given twice (a stage of this name stands in quotes)")
+    elif words[0] in ("stage", "stages"):
+        take_stages(draft, at, words)
+    elif len(words) == 3 and words[1] in DIAGONAL_WORDS:
+        take_diagonal(draft, at, words)
+    else:
+        raise draft.problem(at, wrong_shape(line, words))
+
+
+def take_stages(draft: Draft, at: int, words: Sequence[str]) -> None:
+    """Takes the names of a 'stage' or 'stages' line."""
+    names = [bare(word) for word in words[1:] if word not in (",", ";")]
+    if not names or "->" in words or (words[0] == "stage" and len(names) > 1):
+        raise draft.problem(at, "write 'stage NAME' or 'stages NAME NAME ...' (quote a name with spaces)")
+    for name in names:
+        draft.add_stage(name, at)
+
+
+def take_diagonal(draft: Draft, at: int, words: Sequence[str]) -> None:
+    """Takes a 'NAME leaves RATE' or 'NAME margin VALUE' line."""
+    i = draft.stage(bare(words[0]), at)
+    if DIAGONAL_WORDS[words[1]] != draft.reading:
+        has, not_so = ("leaving rates", "margins") if draft.reading == LEAVING_RATES else ("margins", "leaving rates")
+        raise draft.problem(at, f"this text has {has}, not {not_so}")
+    draft.add_diagonal(i, words[2], at)
+
+
+def bare(word: str) -> str:
+    """A name without its quotes."""
+    return word[1:-1].strip() if word.startswith('"') else word
+
+
+def wrong_shape(line: str, words: Sequence[str]) -> str:
+    """What to say of a line that has none of the shapes."""
+    has_cells = "," in words or ";" in words or "\t" in line.split("#")[0]
+    if has_cells and "->" not in words and not any(word in words for word in DIAGONAL_WORDS):
+        return "a row of a matrix stands among lines (a text keeps to one form)"
+    return ("write 'FROM -> TO RATE', 'NAME leaves RATE' or 'NAME margin VALUE' "
+            "(quote a name with spaces; numbers have a decimal point)")
+
+
+# ==== The form of a matrix, as a spreadsheet exports it ====
+
+def separator_of(line: str) -> str | None:
+    """What stands between the cells of a header row: what stands before its last cell, 'leaves' or 'margin'."""
+    last = re.search(r'([\t;,])[ "]*(leaves|margin)[ "]*[\s;,]*$', line, re.IGNORECASE)
+    return last[1] if last else next((separator for separator in SEPARATORS if separator in line), None)
+
+
+def cells_of(source: str, at: int, line: str, separator: str) -> list[str]:
+    """The cells of a row without the empty ones at its end."""
+    try:
+        row = next(csv.reader([line], delimiter=separator, skipinitialspace=True, strict=True), [])
+    except csv.Error:
+        raise problem_at(source, at, "a double quote is not closed or stands inside a cell") from None
+    cells = [cell.strip() for cell in row]
+    while cells and not cells[-1]:
+        cells.pop()
+    return cells
+
+
+def rows_of(source: str, lines: Sequence[str]) -> Iterator[tuple[int, list[str]]]:
+    """The rows that are neither blank nor comments, with their lines; the first decides the separator."""
+    separator: str | None = None
+    for at, line in enumerate(lines, 1):
+        if is_skipped(line):
+            continue
+        separator = separator or separator_of(line) or ","
+        cells = cells_of(source, at, line, separator)
+        if cells:
+            yield at, cells
+
+
+def read_matrix(source: str, lines: Sequence[str]) -> Draft:
+    """The draft of a matrix: a header row with the names, then a row for each stage."""
+    draft: Draft | None = None
+    header = 1
+    seen: set[int] = set()
+    for at, cells in rows_of(source, lines):
+        if draft is None:
+            header, draft = at, take_header(source, at, cells)
+        else:
+            take_row(draft, at, cells, seen)
+    if draft is None:
+        raise problem_at(source, len(lines), "the text is empty")
+    for i, name in enumerate(draft.names):
+        if i not in seen:
+            raise problem_at(source, header, f"stage {name!r} has no row")
+    return draft
+
+
+def take_header(source: str, at: int, cells: Sequence[str]) -> Draft:
+    """The draft of a header row: any first cell, the names, and 'leaves' or 'margin' as the last."""
+    last = cells[-1].lower()
+    if last not in DIAGONAL_WORDS or len(cells) < 3:
+        raise problem_at(source, at, "a header row has a first cell, the stage names, and 'leaves' or 'margin' "
+                                     "as its last cell")
+    draft = Draft(source, DIAGONAL_WORDS[last])
+    for name in cells[1:-1]:
+        draft.add_stage(name, at)
+    return draft
+
+
+def take_row(draft: Draft, at: int, cells: Sequence[str], seen: set[int]) -> None:
+    """Takes the row of one stage: its name, its rates, and its leaving rate or margin."""
+    n = len(draft.names)
+    if len(cells) == 1 and cells[0] not in draft.names and is_line(cells[0]):
+        raise draft.problem(at, "a line of the other form stands in a matrix (a text keeps to one form)")
+    i = draft.stage(cells[0], at)
+    if i in seen:
+        raise draft.problem(at, f"stage {cells[0]!r} has two rows (first on line {draft.lines[i]})")
+    if len(cells) > n + 2:
+        raise draft.problem(at, f"the row has {len(cells)} cells, the header has {n + 2}")
+    seen.add(i)
+    draft.lines[i] = at
+    for j, cell in enumerate(cells[1:n + 1]):
+        if is_filled(cell) and not (i == j and is_zero(cell)):
+            draft.add_rate(i, j, cell, at)
+    if len(cells) == n + 2 and is_filled(cells[-1]):
+        draft.add_diagonal(i, cells[-1], at)
+
+
+def is_line(cell: str) -> bool:
+    """Whether this looks like a line of the other form."""
+    words = cell.split()
+    return "->" in cell or words[0] in FIRST_WORDS or any(word in words for word in DIAGONAL_WORDS)
+
+
+def is_filled(cell: str) -> bool:
+    """Whether a cell holds a number; spreadsheets may show a zero as a single dash."""
+    return cell not in ("", "-")
+
+
+def is_zero(cell: str) -> bool:
+    """Whether a cell holds a zero."""
+    try:
+        return read_number(cell) == 0.0
+    except ValueError:
+        return False
+
+
+# ==== The sheet and its file ====
+
+@dataclass(frozen=True)
+class Sheet:
+    """A sheet as its file holds it: n × n numbers by their bits, row by row."""
+    reading: int
+    n: int
+    words: list[int]
+
+
+@dataclass(frozen=True)
+class Refused:
+    """A refusal: its number, a row and a column."""
+    number: int
+    row: int = 0
+    column: int = 0
+
+
+def sheet_of(draft: Draft) -> Sheet:
+    """The sheet of a text; a missing rate or leaving rate is zero, a missing margin is a problem."""
+    n = len(draft.names)
+    numbers = [0.0] * (n * n)
+    for (i, j), rate in draft.rates.items():
+        numbers[i * n + j] = 0.0 - rate.number
+    for i, name in enumerate(draft.names):
+        if i not in draft.diagonal and draft.reading == MARGINS:
+            raise problem_at(draft.source, draft.lines[i], f"stage {name!r} has no margin")
+        numbers[i * n + i] = draft.diagonal[i].number if i in draft.diagonal else 0.0
+    return Sheet(draft.reading, n, [word_of(number) for number in numbers])
+
+
+def record(kind: int, payload: bytes) -> bytes:
+    """A record of a sheet file: length, kind, payload."""
+    return struct.pack("<IH", len(payload), kind) + payload
+
+
+def file_of(sheet: Sheet) -> bytes:
+    """The sheet file: a head, then the rows."""
+    n = sheet.n
+    rows = [record(2, struct.pack(f"<H{n}Q", i + 1, *sheet.words[i * n:(i + 1) * n])) for i in range(n)]
+    return record(1, struct.pack("<HH", sheet.reading, n)) + b"".join(rows)
+
+
+def take_record(data: bytes, at: int) -> tuple[int, bytes, int] | None:
+    """Kind, payload and end of the record that starts here; None where bytes are missing."""
+    if len(data) - at < 6:
+        return None
+    length, kind = struct.unpack_from("<IH", data, at)
+    end = at + 6 + length
+    return (kind, data[at + 6:end], end) if end <= len(data) else None
+
+
+def read_file(data: bytes) -> Sheet | Refused:
+    """The sheet of a file, or the refusal that dwell prints for it (11 to 14)."""
+    head = take_record(data, 0)
+    if head is None:
+        return Refused(11)
+    kind, payload, at = head
+    reading, n = struct.unpack("<HH", payload) if len(payload) == 4 else (0, 0)
+    if kind != 1 or reading not in READINGS.values() or not 1 <= n <= LIMIT:
+        return Refused(12)
+    words: list[int] = []
+    for row in range(1, n + 1):
+        due = take_record(data, at)
+        if due is None:
+            return Refused(11, row)
+        kind, payload, at = due
+        if kind != 2 or len(payload) != 2 + 8 * n or struct.unpack_from("<H", payload)[0] != row:
+            return Refused(13, row)
+        words += struct.unpack_from(f"<{n}Q", payload, 2)
+    return Sheet(reading, n, words) if at == len(data) else Refused(14)
+
+
+# ==== A sheet as text ====
+
+def show_text(sheet: Sheet, names: Sequence[str]) -> str:
+    """A sheet in the form with a line for each rate."""
+    reading = next(word for word, reading in READINGS.items() if reading == sheet.reading)
+    quoted = [quote(name) for name in names]
+    lines = [f"reading {reading}"]
+    lines += ["stages " + " ".join(quoted[at:at + 8]) for at in range(0, sheet.n, 8)]
+    for i in range(sheet.n):
+        of_stage = list(stage_lines(sheet, quoted, i))
+        lines += [""] + of_stage if of_stage else []
+    return "\n".join(lines) + "\n"
+
+
+def stage_lines(sheet: Sheet, quoted: Sequence[str], i: int) -> Iterator[str]:
+    """The lines of one stage: its rates, then its leaving rate or margin; plus zeros are left out."""
+    last = next(word for word, reading in DIAGONAL_WORDS.items() if reading == sheet.reading)
+    for j in range(sheet.n):
+        word = sheet.words[i * sheet.n + j]
+        if i != j and word != 0:
+            yield f"{quoted[i]} -> {quoted[j]} {shown(word, 0.0 - number_of(word))}"
+    word = sheet.words[i * sheet.n + i]
+    if word != 0 or sheet.reading == MARGINS:
+        yield f"{quoted[i]} {last} {shown(word, number_of(word))}"
+
+
+def shown(word: int, typed: float) -> str:
+    """A number as it is typed; the bits follow where `make` does not write them for it."""
+    made_by_make = SMALLEST <= typed < math.inf
+    return shortest(typed) if made_by_make else f"{shortest(typed)}  # bits {word:016x}"
+
+
+def quote(name: str) -> str:
+    """A name as the text form writes it, quoted where it has to be."""
+    return name if re.fullmatch(BARE_WORD, name) and name not in FIRST_WORDS else f'"{name}"'
+
+
+# ==== dwell's output as a table ====
+
+@dataclass(frozen=True)
+class Table:
+    """The table that dwell prints, row by row, with its allowance."""
+    n: int
+    allowance: int
+    numbers: list[float]
+
+
+def read_answer(source: str, data: bytes) -> Table | Refused:
+    """What dwell printed: a table or a refusal."""
+    lines = decode(source, data).removesuffix("\n").split("\n")
+    refused = re.fullmatch(r"refused ([0-9]{1,9}) ([0-9]{1,9}) ([0-9]{1,9})", lines[0])
+    if refused and len(lines) == 1:
+        return Refused(*map(int, refused.groups()))
+    head = re.fullmatch(r"seconds ([0-9]{1,2}) ([0-9]{1,9})", lines[0])
+    if head is None or not 1 <= int(head[1]) <= LIMIT:
+        raise problem_at(source, 1, "this is not dwell's output ('seconds' or 'refused' and numbers)")
+    n = int(head[1])
+    numbers = [read_entry(source, lines, n, place) for place in range(n * n)]
+    if len(lines) > 1 + n * n:
+        raise problem_at(source, n * n + 2, "dwell's output goes on after its last entry")
+    return Table(n, int(head[2]), numbers)
+
+
+def read_entry(source: str, lines: Sequence[str], n: int, place: int) -> float:
+    """The entry at a place, from its line."""
+    row, column = place // n + 1, place % n + 1
+    line = lines[place + 1] if place + 1 < len(lines) else ""
+    entry = re.fullmatch(rf"{row} {column} ([0-9a-f]{{16}})", line)
+    if entry is None:
+        raise problem_at(source, place + 2, f"the entry of row {row}, column {column} is missing or damaged")
+    return number_of(int(entry[1], 16))
+
+
+def table_text(table: Table, names: Sequence[str], hexadecimal: bool) -> str:
+    """The table, aligned, with a line before that says what it is and one after on its accuracy."""
+    texts = [exact(number) if hexadecimal else shortest(number) for number in table.numbers]
+    blocks = [["", *names]]
+    blocks += [[name, *align(texts[j::table.n])] for j, name in enumerate(names)]
+    columns = [pad(block) for block in blocks]
+    lines = ["  ".join(cells).rstrip() for cells in zip(*columns)]
+    return "\n".join(["Seconds at each stage (columns) for a request that enters at the stage on the left:", "",
+                      *lines, "", accuracy_line(table.allowance)]) + "\n"
+
+
+def align(texts: Sequence[str]) -> list[str]:
+    """The numbers of a column, padded so that their units stand under each other."""
+    parts = [re.fullmatch(r"([^.ep]*)(.*)", text) for text in texts]
+    halves = [(part[1], part[2]) for part in parts if part]
+    before, after = (max(len(half[side]) for half in halves) for side in (0, 1))
+    return [left.rjust(before) + right.ljust(after) for left, right in halves]
+
+
+def pad(cells: Sequence[str]) -> list[str]:
+    """A column with its heading; names stand at the left in the first column, at the right in others."""
+    width = max(len(cell) for cell in cells)
+    return [cell.ljust(width) if not cells[0] else cell.rjust(width) for cell in cells]
+
+
+def accuracy_line(allowance: int) -> str:
+    """What the allowance promises; (1 + u)^E - 1 is at most E·u / (1 - E·u), here rounded up to two digits."""
+    most = Context(prec=2, rounding=ROUND_UP).divide(Decimal(allowance), Decimal(2 ** 53 - allowance))
+    return (f"Each number is within a factor (1 + 1/2^53)^{allowance} of the exact one, "
+            f"off by at most {most:.1e} of it.")
+
+
+# ==== Refusals in words ====
+
+REASONS = {
+    1: "the reading is neither 1 (leaving rates) nor 2 (margins)",
+    2: "the number of stages is not from 1 to 32",
+    3: "the sheet does not hold exactly n × n numbers for its n stages",
+    4: "the room lent for the answer is smaller than n × n numbers",
+    5: "a stage that was asked for is not one of the sheet's stages",
+    6: "{number} is not a finite number",
+    7: "{number} has the wrong sign (rates and leaving rates are zero or positive, margins are positive)",
+    8: "{number} is too small (a number is zero or at least 2^-1022, about 2.2e-308)",
+    9: "a request at {stage} never gets out, since no chain of moves leads from there to a stage with a "
+       "leaving rate above zero",
+    10: "a step of the calculation leaves the range of binary64 numbers, since some rates are too large, "
+        "too small or too far apart",
+    11: "the file ends before {record} is complete",
+    12: "the file does not begin with the head of a sheet (reading 1 or 2, and 1 to 32 stages)",
+    13: "the file has something else where {record} is due (another kind, length or row number)",
+    14: "the file goes on after its last row",
+}
+
+
+def refusal_sentence(refused: Refused, names: Sequence[str]) -> str:
+    """A refusal in plain words, with its place and the names of its stages."""
+    stage = stage_label(refused.row, names)
+    number = f"the rate from {stage} to {stage_label(refused.column, names)}"
+    if refused.row == refused.column:
+        number = f"the leaving rate or margin of {stage}"
+    record_name = f"the row of {stage}" if refused.row else "the head"
+    reason = REASONS.get(refused.number, "this number has no words here")
+    return (f"refused ({refused.number}{place_of(refused)}): "
+            f"{reason.format(stage=stage, number=number, record=record_name)}.")
+
+
+def stage_label(number: int, names: Sequence[str]) -> str:
+    """A stage by its number, and by its name where that is known."""
+    return f"stage {number} ({names[number - 1]})" if 1 <= number <= len(names) else f"stage {number}"
+
+
+def place_of(refused: Refused) -> str:
+    """The place of a refusal, where it has one."""
+    if refused.column:
+        return f" at row {refused.row}, column {refused.column}"
+    return f" at row {refused.row}" if refused.row else ""
+
+
+# ==== Commands ====
+
+FORMS = """\
+A text has one of two forms.  Blank lines are left out in both.
+
+Lines, the reading first; # begins a comment:
+  reading leaving-rates          or: reading margins
+  stages intake signer           the stages in their order, 1 to 32; several such lines may stand
+  stage "key ceremony"           one stage; a name with spaces stands in double quotes
+  intake -> signer 0.25          a rate per second from one stage to another
+  signer leaves 1e-6             a leaving rate (reading leaving-rates)
+  signer margin 0.5              a margin (reading margins)
+
+A matrix, as a spreadsheet exports it, with commas, tabs or semicolons between the cells; a row that
+begins with # is a comment:
+  from,intake,signer,leaves      any first cell, the stages in their order, 'leaves' or 'margin'
+  intake,,0.25,                  a row for each stage: its rates, then its leaving rate or margin
+  signer,0.05,,1e-6              an empty cell, a dash or a missing cell at the end is zero
+
+Rates are typed as positive numbers, decimal (0.25, 1e-6) or hexadecimal (0x1p-20), and rounded to the
+nearest binary64 number.  A missing rate or leaving rate is zero; a missing margin is an error.  The
+file is UTF-8 text.  Errors are one line, FILE:LINE: and what is wrong, with exit status 1."""
+
+OVERVIEW = """\
+From numbers in a text file or a spreadsheet to a table of seconds:
+  python3 tools/sheet.py make line.txt > line.sheet
+  target/bin/dwell < line.sheet | python3 tools/sheet.py table --names line.txt
+
+FILE and TEXT may be - for standard input.  `sheet.py make --help` describes the text forms."""
+
+
+def read_bytes(path: str, most: int) -> bytes:
+    """At most so many bytes of a file, or of standard input for -."""
+    try:
+        if path == "-":
+            return sys.stdin.buffer.read(most)
+        with open(path, "rb") as file:
+            return file.read(most)
+    except OSError as error:
+        raise Problem(f"{path}: {error.strerror}") from None
+
+
+def source_name(path: str) -> str:
+    """What messages call a file."""
+    return "<stdin>" if path == "-" else path
+
+
+def draft_of_path(path: str) -> Draft:
+    """The draft of the text at a path."""
+    data = read_bytes(path, LONGEST_TEXT + 1)
+    if len(data) > LONGEST_TEXT:
+        raise Problem(f"{source_name(path)}: the text is longer than {LONGEST_TEXT} bytes")
+    return read_text(source_name(path), data)
+
+
+def names_for(options: argparse.Namespace) -> list[str]:
+    """The names that --names gives, none without it."""
+    if options.names is None:
+        return []
+    if options.names == "-" and options.file == "-":
+        raise Problem("standard input cannot be read twice: give a file its name")
+    return draft_of_path(options.names).names
+
+
+def names_of_all(options: argparse.Namespace, names: list[str], n: int) -> list[str]:
+    """A name for each of n stages: the given ones, or s1, s2, ..."""
+    if options.names is not None and len(names) != n:
+        raise Problem(f"{source_name(options.names)}: the text names {len(names)} stages, "
+                      f"{source_name(options.file)} has {n}")
+    return names or [f"s{number}" for number in range(1, n + 1)]
+
+
+def run_make(options: argparse.Namespace) -> bytes:
+    """The make command."""
+    if sys.stdout.isatty():
+        raise Problem("a sheet file is not text: send it to a file (> FILE) or to dwell (| target/bin/dwell)")
+    return file_of(sheet_of(draft_of_path(options.text)))
+
+
+def run_show(options: argparse.Namespace) -> bytes:
+    """The show command; like dwell it judges at most one byte more than the longest file."""
+    names = names_for(options)
+    found = read_file(read_bytes(options.file, LONGEST_FILE + 1))
+    if isinstance(found, Refused):
+        raise Problem(f"{source_name(options.file)}: {refusal_sentence(found, names)}")
+    return show_text(found, names_of_all(options, names, found.n)).encode()
+
+
+def run_table(options: argparse.Namespace) -> bytes:
+    """The table command."""
+    names = names_for(options)
+    found = read_answer(source_name(options.file), read_bytes(options.file, LONGEST_TEXT))
+    if isinstance(found, Refused):
+        raise Problem(refusal_sentence(found, names))
+    return table_text(found, names_of_all(options, names, found.n), options.hex).encode()
+
+
+def parser() -> argparse.ArgumentParser:
+    """The command line."""
+    raw = argparse.RawDescriptionHelpFormatter
+    top = argparse.ArgumentParser(prog="sheet.py", epilog=OVERVIEW, formatter_class=raw,
+                                  description="Makes and shows sheet files and lays out dwell's output.")
+    commands = top.add_subparsers(title="commands", required=True, metavar="COMMAND")
+    make = commands.add_parser("make", help="write a sheet file, made from a text, to standard output",
+                               description="Writes the sheet file of a text to standard output.",
+                               epilog=FORMS, formatter_class=raw)
+    make.add_argument("text", metavar="TEXT", help="a text in one of the forms below, - for standard input")
+    make.set_defaults(run=run_make)
+    show = commands.add_parser("show", help="print a sheet file as a text",
+                               description="Prints a sheet file as a text of lines. A number that make cannot "
+                                           "have written is followed by its bits in a comment.")
+    show.add_argument("file", metavar="FILE", help="a sheet file, - for standard input")
+    show.set_defaults(run=run_show)
+    table = commands.add_parser("table", help="print dwell's output as an aligned table, or a refusal in words",
+                                description="Prints dwell's output as an aligned table in decimal seconds, the "
+                                            "shortest digits that read back. A refusal becomes a sentence on "
+                                            "standard error with exit status 1.")
+    table.add_argument("file", metavar="FILE", nargs="?", default="-",
+                       help="what dwell printed; standard input without it or for -")
+    table.add_argument("--hex", action="store_true", help="print exact hexadecimal floats (C99) instead")
+    table.set_defaults(run=run_table)
+    for command in (show, table):
+        command.add_argument("--names", metavar="TEXT", help="a text whose stage names are used, - for standard "
+                                                             "input; without it stages are s1, s2, ...")
+    return top
+
+
+def main(arguments: Sequence[str]) -> int:
+    """Runs one command; the exit status."""
+    options = parser().parse_args(arguments)
+    try:
+        sys.stdout.buffer.write(options.run(options))
+        sys.stdout.buffer.flush()
+    except Problem as problem:
+        print(problem, file=sys.stderr)
+        return 1
+    except OSError as error:
+        os.dup2(os.open(os.devnull, os.O_WRONLY), sys.stdout.fileno())  # nothing more is tried at the end
+        if not isinstance(error, BrokenPipeError):
+            print(f"standard output: {error.strerror}", file=sys.stderr)
+        return 1
+    except KeyboardInterrupt:
+        return 130
+    return 0
+
+
+if __name__ == "__main__":
+    sys.exit(main(sys.argv[1:]))

@@ -1,0 +1,934 @@
+#!/usr/bin/env python3
+"""Tests of tools/sheet.py and of the examples; run by `python3 tools/test_tools.py`.
+
+The environment variable DWELL holds the command of the dwell program, which reads a sheet file on
+standard input; without it the reference stands in.  Expected bytes are packed here from fractions of the
+typed numbers, and expected seconds are exact inverses over fractions; nothing is compared with a stored
+copy of the tool's output except the walk-through, whose commands are run again.
+"""
+from __future__ import annotations
+
+import io
+import os
+import pty
+import random
+import re
+import shlex
+import struct
+import subprocess
+import sys
+import tempfile
+import unittest
+from fractions import Fraction
+from pathlib import Path
+from typing import Callable, NamedTuple, Sequence
+
+ROOT = Path(__file__).resolve().parent.parent
+SHEET = [sys.executable, str(ROOT / "tools" / "sheet.py")]
+REFERENCE = [sys.executable, str(ROOT / "tools" / "reference.py"), "dwell"]
+DWELL = shlex.split(os.environ["DWELL"]) if "DWELL" in os.environ else REFERENCE
+READING_WORDS = {1: "leaving-rates", 2: "margins"}
+DIAGONAL_WORDS = {1: "leaves", 2: "margin"}
+
+START_FOLDER = os.getcwd()
+
+sys.dont_write_bytecode = True
+sys.path.insert(0, str(ROOT / "tools"))
+import sheet  # noqa: E402
+
+Exact = list[list[Fraction]]
+
+
+# ==== Running the tools ====
+
+class Result(NamedTuple):
+    """What a command gave."""
+    status: int
+    out: bytes
+    err: str
+
+
+def run(*arguments: str, stdin: bytes = b"") -> Result:
+    """Runs sheet.py in this process, with standard streams of its own."""
+    kept = sys.stdin, sys.stdout, sys.stderr
+    out, err = io.BytesIO(), io.BytesIO()
+    sys.stdin = io.TextIOWrapper(io.BytesIO(stdin))
+    sys.stdout = io.TextIOWrapper(out, encoding="utf-8", write_through=True)
+    sys.stderr = io.TextIOWrapper(err, encoding="utf-8", write_through=True)
+    try:
+        status = sheet.main(arguments)
+    except SystemExit as stop:
+        status = int(str(stop.code))
+    finally:
+        streams = sys.stdin, sys.stdout, sys.stderr
+        sys.stdin, sys.stdout, sys.stderr = kept
+    result = Result(status, out.getvalue(), err.getvalue().decode())
+    for stream in streams:
+        stream.close()
+    return result
+
+
+def process(*arguments: str, stdout: int = subprocess.PIPE) -> Result:
+    """Runs sheet.py as a process."""
+    done = subprocess.run([*SHEET, *arguments], stdin=subprocess.DEVNULL, stdout=stdout, stderr=subprocess.PIPE,
+                          check=False)
+    return Result(done.returncode, done.stdout or b"", done.stderr.decode())
+
+
+def dwell(data: bytes) -> bytes:
+    """What the dwell program prints for a sheet file."""
+    return subprocess.run(DWELL, input=data, stdout=subprocess.PIPE, cwd=START_FOLDER, check=False).stdout
+
+
+class ToolTest(unittest.TestCase):
+    """A test with a folder of its own and short ways to run the tools there."""
+
+    def setUp(self) -> None:
+        """Makes the folder and goes there."""
+        folder = tempfile.TemporaryDirectory()
+        self.addCleanup(folder.cleanup)
+        self.folder = folder.name
+        os.chdir(self.folder)
+        self.addCleanup(os.chdir, START_FOLDER)
+
+    def write(self, name: str, content: str | bytes) -> str:
+        """Writes a file into the folder."""
+        data = content.encode() if isinstance(content, str) else content
+        (Path(self.folder) / name).write_bytes(data)
+        return name
+
+    def good(self, *arguments: str, stdin: bytes = b"") -> bytes:
+        """The output of a command that succeeds and says nothing else."""
+        result = run(*arguments, stdin=stdin)
+        self.assertEqual((result.status, result.err), (0, ""))
+        return result.out
+
+    def bad(self, *arguments: str, stdin: bytes = b"") -> str:
+        """The one line that a command says when it fails."""
+        result = run(*arguments, stdin=stdin)
+        self.assertEqual((result.status, result.out), (1, b""), result.err)
+        self.assertEqual(result.err.count("\n"), 1, result.err)
+        return result.err.removesuffix("\n")
+
+    def make(self, text: str | bytes, name: str = "line.txt") -> bytes:
+        """The sheet file of a text."""
+        return self.good("make", self.write(name, text))
+
+    def assert_shortest(self, text: str, x: float) -> None:
+        """The text reads back as x; with one digit less it does not (where x is no power of two)."""
+        self.assertEqual(float(text), x)
+        digits = digits_of(text)
+        if digits > 1 and x.hex().split(".")[1].split("p")[0].strip("0"):
+            self.assertNotEqual(float(f"{x:.{digits - 2}e}"), x, text)
+
+
+# ==== Sheets, files and exact values, apart from the tools ====
+
+class Typed(NamedTuple):
+    """A sheet as it is typed: names, rates by pair of stages, leaving rates or margins by stage."""
+    reading: int
+    names: list[str]
+    rates: dict[tuple[int, int], str]
+    diagonal: dict[int, str]
+
+
+def value(text: str) -> Fraction:
+    """The exact value of a decimal or hexadecimal text."""
+    if "x" not in text.lower():
+        return Fraction(text)
+    mantissa, _, exponent = text.lower().replace("0x", "").partition("p")
+    whole, _, part = mantissa.partition(".")
+    return Fraction(int(whole + part or "0", 16), 16 ** len(part)) * Fraction(2) ** int(exponent or "0")
+
+
+def nearest(exact: Fraction) -> int:
+    """The bits of the binary64 number nearest to a fraction (a division of whole numbers rounds once)."""
+    return struct.unpack("<Q", struct.pack("<d", exact.numerator / exact.denominator))[0]
+
+
+def number(word: int) -> float:
+    """The number with these bits."""
+    return struct.unpack("<d", struct.pack("<Q", word))[0]
+
+
+def packed(reading: int, n: int, words: Sequence[int]) -> bytes:
+    """A sheet file, packed by document 01."""
+    data = struct.pack("<IHHH", 4, 1, reading, n)
+    for i in range(n):
+        data += struct.pack(f"<IHH{n}Q", 2 + 8 * n, 2, i + 1, *words[i * n:(i + 1) * n])
+    return data
+
+
+def expected_file(typed: Typed) -> bytes:
+    """The sheet file that a typed sheet stands for."""
+    n = len(typed.names)
+    words = [0] * (n * n)
+    for (i, j), text in typed.rates.items():
+        words[i * n + j] = nearest(-value(text)) if value(text) else 0
+    for i, text in typed.diagonal.items():
+        words[i * n + i] = nearest(value(text))
+    return packed(typed.reading, n, words)
+
+
+def quoted(name: str) -> str:
+    """A name in quotes where it has more than letters and digits."""
+    return name if re.fullmatch(r"\w+", name) and name not in ("reading", "stage", "stages") else f'"{name}"'
+
+
+def as_lines(typed: Typed) -> str:
+    """A typed sheet as lines."""
+    names = [quoted(name) for name in typed.names]
+    lines = [f"reading {READING_WORDS[typed.reading]}", *(f"stage {name}" for name in names)]
+    lines += [f"{names[i]} -> {names[j]} {text}" for (i, j), text in typed.rates.items()]
+    lines += [f"{names[i]} {DIAGONAL_WORDS[typed.reading]} {text}" for i, text in typed.diagonal.items()]
+    return "\n".join(lines) + "\n"
+
+
+def as_matrix(typed: Typed, separator: str) -> str:
+    """A typed sheet as a matrix."""
+    n = len(typed.names)
+    names = [f'"{name}"' if separator in name else name for name in typed.names]
+    rows = [["from / to", *names, DIAGONAL_WORDS[typed.reading]]]
+    for i, name in enumerate(names):
+        rows.append([name, *(typed.rates.get((i, j), "") for j in range(n)), typed.diagonal.get(i, "")])
+    return "".join(separator.join(row) + "\n" for row in rows)
+
+
+def random_text(rng: random.Random) -> str:
+    """A positive number as someone may type it."""
+    digits = "".join(rng.choice("0123456789") for _ in range(rng.randint(0, 25)))
+    return rng.choice([
+        f"{rng.randint(1, 9)}.{digits}e{rng.randint(-300, 300)}", f"{rng.randint(1, 999)}", f"0.{digits}1",
+        f".{digits}5", f"+{rng.randint(1, 9)}.", f"{rng.randint(1, 9)}E-6", f"0x{rng.randint(1, 2 ** 70):x}",
+        f"0X1.{rng.getrandbits(60):X}P{rng.randint(-1000, 1000)}", f"0x.{rng.randint(1, 2 ** 50):x}p+3"])
+
+
+def random_rate(rng: random.Random) -> str:
+    """A short decimal between 1e-9 and 1e6."""
+    return f"{rng.randint(1, 999)}e{rng.randint(-9, 3)}"
+
+
+def random_typed(rng: random.Random, reading: int, n: int,
+                 text: Callable[[random.Random], str] = random_text) -> Typed:
+    """A sheet with some rates of each stage; a leaving rate may be missing."""
+    names = rng.sample(["intake", "key ceremony", "Sign", "x-1", "größe", "leaves", "stage", "a, b", "c;d", "#7",
+                        "p->q", "reading", "margin", "100", "-", *(f"stage {k}" for k in range(40))], n)
+    share = rng.choice([0.1, 0.5, 1.0])
+    rates = {(i, j): text(rng) for i in range(n) for j in range(n) if i != j and rng.random() < share}
+    diagonal = {i: text(rng) for i in range(n) if reading == 2 or rng.random() < 0.6}
+    return Typed(reading, names, rates, diagonal)
+
+
+def exact_matrix(typed: Typed, exact_of: Callable[[str], Fraction] = value) -> Exact:
+    """The matrix A that the typed numbers stand for (01, "The sheet and its two readings")."""
+    n = len(typed.names)
+    t = [[exact_of(typed.rates.get((i, j), "0")) for j in range(n)] for i in range(n)]
+    a: list[Fraction] = []
+    share: list[Fraction] = []
+    for i in range(n):
+        weight = [share[j] if typed.reading == 2 and j < i else Fraction(1) for j in range(n)]
+        h = sum((t[i][j] * weight[j] for j in range(n)), Fraction(0))
+        a.append(exact_of(typed.diagonal.get(i, "0")) + h)
+        share.append(h / a[i] if a[i] else Fraction(0))
+    return [[a[i] if i == j else -t[i][j] for j in range(n)] for i in range(n)]
+
+
+def exact_inverse(matrix: Exact) -> Exact:
+    """The inverse over fractions, by Gauss-Jordan elimination."""
+    n = len(matrix)
+    rows = [list(row) + [Fraction(int(i == j)) for j in range(n)] for i, row in enumerate(matrix)]
+    for k in range(n):
+        rows[k] = [x / rows[k][k] for x in rows[k]]
+        for i in range(n):
+            if i != k and rows[i][k]:
+                rows[i] = [x - rows[i][k] * y for x, y in zip(rows[i], rows[k])]
+    return [row[n:] for row in rows]
+
+
+def rounded_value(text: str) -> Fraction:
+    """The exact value of the binary64 number nearest to a text, which is what the sheet holds."""
+    return Fraction(number(nearest(value(text))))
+
+
+def is_near(x: float, y: Fraction, allowance: int) -> bool:
+    """Each is at most the other times 1 + E/2^53, which (1 + 1/2^53)^E is not below."""
+    factor = 1 + Fraction(allowance, 2 ** 53)
+    return x >= 0 and y >= 0 and Fraction(x) <= y * factor and y <= Fraction(x) * factor
+
+
+def digits_of(text: str) -> int:
+    """The significant digits of a decimal."""
+    return len(re.sub(r"e.*|[.]", "", text).lstrip("0").rstrip("0") or "0")
+
+
+def split_table(out: bytes, names: Sequence[str]) -> tuple[str, list[list[str]], list[str]]:
+    """The first line of a table, its cells and its lines with numbers; checks the layout."""
+    lines = out.decode().split("\n")
+    assert lines[1] == "" and lines[-3] == "" and lines[-1] == "", lines
+    assert not any(line != line.rstrip() for line in lines), "blanks at the end of a line"
+    heading, rows = lines[2], lines[3:-3]
+    assert re.sub(r"\s+", " ", heading).strip() == re.sub(r"\s+", " ", " ".join(names)), heading
+    cells = []
+    for name, row in zip(names, rows, strict=True):
+        assert row.startswith(name + " "), row
+        cells.append(row[len(name):].split())
+    return lines[0], cells, rows
+
+
+# ==== The tests ====
+
+class Make(ToolTest):
+    """Files made from texts."""
+
+    def test_document_sheet_p(self) -> None:
+        """Sheet P of document 01, byte by byte, and what dwell prints for it."""
+        data = self.make("reading leaving-rates\nstages a b\na -> b 1\nb -> a 1\na leaves 1\n")
+        self.assertEqual(data.hex(), "0400000001000100020012000000020001" "00" "000000000000f03f" "000000000000f0bf"
+                                     "120000000200" "0200" "000000000000f0bf" "0000000000000000")
+        self.assertEqual(dwell(data), b"seconds 2 32\n1 1 3ff0000000000000\n1 2 3ff0000000000000\n"
+                                      b"2 1 3ff0000000000000\n2 2 4000000000000000\n")
+
+    def test_lines(self) -> None:
+        """Random sheets of every size as lines: each number is the nearest to what was typed."""
+        rng = random.Random(1)
+        for n in range(1, 33):
+            typed = random_typed(rng, rng.choice([1, 2]), n)
+            self.assertEqual(self.make(as_lines(typed)), expected_file(typed), as_lines(typed))
+
+    def test_matrix(self) -> None:
+        """Random sheets as matrices with each separator."""
+        rng = random.Random(2)
+        for n in (1, 2, 3, 8, 32):
+            for separator in ",;\t":
+                typed = random_typed(rng, rng.choice([1, 2]), n)
+                typed = typed._replace(names=[name.replace("#", "") for name in typed.names])
+                text = as_matrix(typed, separator)
+                self.assertEqual(self.make(text), expected_file(typed), text)
+
+    def test_layout_of_lines(self) -> None:
+        """Comments, blank lines, tabs, quotes, commas between names, line ends, a BOM, standard input."""
+        plain = "reading margins\nstage a\nstage b\nstage c d\n".replace("c d", '"c d"')
+        plain += 'a -> b 0.5\nb -> "c d" 2\na margin 1\nb margin 2\n"c d" margin 3\n'
+        data = self.make(plain)
+        other = ('# head\n\n  reading\tmargins # a comment, with "one quote\n\nstages a, b\nstage "c d"  # two\n'
+                 'a->b 0.5\n\tb  ->\t"c d"   2#no blank before\n"a" margin 1\nb margin 0x2\n"c d" margin 3.0\n')
+        self.assertEqual(self.make(other), data)
+        self.assertEqual(self.make(other.replace("\n", "\r\n")), data)
+        self.assertEqual(self.make(other.replace("\n", "\r")), data)
+        self.assertEqual(self.make(b"\xef\xbb\xbf" + other.encode()), data)
+        self.assertEqual(self.make(other.removesuffix("\n")), data)
+        self.assertEqual(self.good("make", "-", stdin=other.encode()), data)
+
+    def test_layout_of_a_matrix(self) -> None:
+        """What spreadsheets write: quotes, CRLF, a BOM, empty cells and rows, dashes, blanks, any order of rows."""
+        typed = Typed(1, ["a", "b c", "d, e"], {(0, 1): "0.5", (2, 0): "1e-6"}, {1: "2"})
+        data = expected_file(typed)
+        for text in ['x,a,b c,"d, e",leaves\na,,0.5,,\nb c,,,,2\n"d, e",1e-6,,,\n',
+                     '"","a","b c","d, e","Leaves"\n"a","","0.5","",""\n"b c","","","","2"\n"d, e","1e-6","","",""\n',
+                     ',a,b c,"d, e",leaves,,\na,0,0.5,0,0,,\nb c,0,0,0,2,,\n"d, e",1e-6,0,0,0,,\n,,,,,,\n',
+                     '# top\n\n"# a, b; c",,,,\n,a , b c, "d, e",LEAVES\n"d, e",1e-6\n'
+                     'a, - ,0.5, -\n b c ,-,,-,2\n#x\n',
+                     'x;a;b c;d, e;leaves\na;;0.5\nb c;;;;2\nd, e;1e-6;;;\n',
+                     'x\ta\tb c\td, e\tleaves\na\t\t0.5\nb c\t\t\t\t2\nd, e\t1e-6\t\t\t\n',
+                     'stage\ta\tb c\td, e\tleaves\na\t\t0.5\nb c\t\t\t\t2\nd, e\t1e-6\t\t\t\n',
+                     'stage,a,b c,"d, e",leaves\na,,0.5,,\nb c,,,,2\n"d, e",1e-6,,,\n']:
+            self.assertEqual(self.make(text), data, text)
+            self.assertEqual(self.make(text.replace("\n", "\r\n"), "line.csv"), data, text)
+            self.assertEqual(self.make(b"\xef\xbb\xbf" + text.encode()), data, text)
+
+    def test_separators_in_names(self) -> None:
+        """A name may hold a separator that is not the one of its matrix, or any separator in quotes."""
+        data = packed(1, 2, [nearest(Fraction(1)), nearest(Fraction(-2)), 0, 0])
+        for text in ["x,a;b,c,leaves\na;b,,2,1\nc\n", 'x,"a,b",c;d, "Leaves",,\n"a,b",,2,1\nc;d\n',
+                     'x;a,b;"c;d";leaves\na,b;;2;1\n"c;d"\n', "x\ta, b; c\td\tleaves\t\na, b; c\t\t2\t1\nd\t\n"]:
+            self.assertEqual(self.make(text), data, text)
+
+    def test_zeros(self) -> None:
+        """Missing rates, typed zeros and minus zeros all become plus zero."""
+        data = packed(1, 2, [0, 0, nearest(Fraction(-1)), 0])
+        self.assertEqual(self.make("reading leaving-rates\nstages a b\nb -> a 1\n"), data)
+        zeros = "a -> b -0.0\na leaves 0\nb leaves -0\n"
+        self.assertEqual(self.make("reading leaving-rates\nstages a b\nb -> a 1\n" + zeros), data)
+        self.assertEqual(self.make(",a,b,leaves\na,0,-0,0x0p0\nb,1,-0,0e999\n"), data)
+
+    def test_edges_of_the_range(self) -> None:
+        """The largest and the smallest numbers that a sheet may hold are taken."""
+        for text in ("0x1p-1022", "2.2250738585072014e-308", "1.7976931348623157e308", "0x1.fffffffffffffp1023"):
+            data = self.make(f"reading margins\nstage a\na margin {text}\n")
+            self.assertEqual(data, packed(2, 1, [nearest(value(text))]))
+
+    def test_terminal(self) -> None:
+        """Binary output to a terminal is refused with a sentence."""
+        self.write("line.txt", "reading leaving-rates\nstage a\na leaves 1\n")
+        master, slave = pty.openpty()
+        result = process("make", "line.txt", stdout=slave)
+        os.close(slave)
+        os.close(master)
+        self.assertEqual(result.status, 1)
+        self.assertRegex(result.err, r"^a sheet file is not text: .*> FILE.*\n$")
+
+
+START = "reading leaving-rates\nstages a b\n"
+MARGINS = "reading margins\nstages a b\n"
+MATRIX = "from,a,b,leaves\n"
+ERRORS: list[tuple[str, int, str]] = [
+    # the text, the line of the error, and words of its message
+    ("", 1, "the text is empty"),
+    ("# only\n\n  # comments\n", 4, "the text is empty"),
+    ("\n,,,\n", 3, "the text is empty"),
+    ('"","",""\n', 2, "the text is empty"),
+    ("stages a b\nreading margins\n", 1, "a text begins with 'reading"),
+    ("stages a, b\n", 1, "a text begins with 'reading"),
+    ("\n# x\na leaves 1\n", 3, "a text begins with 'reading"),
+    ("reading rates\n", 1, "the reading is 'leaving-rates' or 'margins'"),
+    ("reading\n", 1, "the reading is 'leaving-rates' or 'margins'"),
+    ("reading margins please\n", 1, "the reading is 'leaving-rates' or 'margins'"),
+    (START + "reading margins\n", 3, "the reading is given twice"),
+    ("reading margins\n\n# nothing\n", 4, "no stage is named"),
+    (START + "\na -> c 1\n", 4, "unknown stage 'c'"),
+    (START + "c -> a 1\n", 3, "unknown stage 'c'"),
+    (START + "c leaves 1\n", 3, "unknown stage 'c'"),
+    (START + "A leaves 1\n", 3, "unknown stage 'A'"),
+    (START + "stage b\n", 3, "stage 'b' is named twice (first on line 2)"),
+    ("reading margins\nstages a b a\n", 2, "stage 'a' is named twice (first on line 2)"),
+    (START + "a -> b 1\n\na -> b 1\n", 5, "the rate from 'a' to 'b' is given twice (first on line 3)"),
+    (START + "a leaves 0\nb leaves 1\na leaves 1\n", 5, "the leaving rate of 'a' is given twice (first on line 3)"),
+    (MARGINS + "a margin 1\na margin 1\n", 4, "the margin of 'a' is given twice (first on line 3)"),
+    (START + "a -> a 1\n", 3, "stage 'a' has a rate to itself"),
+    (START + "a -> b fast\n", 3, "'fast' is not a number"),
+    (START + "a -> b nan\n", 3, "'nan' is not a number"),
+    (START + "a -> b inf\n", 3, "'inf' is not a number"),
+    (START + "a -> b 1_000\n", 3, "'1_000' is not a number"),
+    (START + "a -> b 5%\n", 3, "'5%' is not a number"),
+    (START + "a -> b 0x\n", 3, "'0x' is not a number"),
+    (START + "a -> b 1p3\n", 3, "'1p3' is not a number"),
+    (START + "a -> b .\n", 3, "'.' is not a number"),
+    (START + "a -> b \u0661\n", 3, "is not a number"),
+    (START + 'a -> b "1"\n', 3, "is not a number"),
+    (START + "a -> b -0.5\n", 3, "'-0.5' is negative"),
+    (START + "a leaves -0x1p-3\n", 3, "'-0x1p-3' is negative"),
+    (MARGINS + "a margin -1\n", 3, "'-1' is negative"),
+    (MARGINS + "a margin 0.0\n", 3, "the margin of 'a' is zero"),
+    (START + "a -> b 1e309\n", 3, "'1e309' is too large"),
+    (START + "a -> b 0x1p1024\n", 3, "'0x1p1024' is too large"),
+    (START + "a -> b 1e-400\n", 3, "'1e-400' is too small"),
+    (START + "a -> b -1e-400\n", 3, "'-1e-400' is too small"),
+    (START + "a -> b 0x1p-1023\n", 3, "'0x1p-1023' is too small"),
+    (START + "a -> b 2.225073858507201e-308\n", 3, "is too small"),
+    (START + "a -> b 0x1p-99999\n", 3, "is too small"),
+    (MARGINS + "a margin 1\n", 2, "stage 'b' has no margin"),
+    (MARGINS + "a margin 1\nb leaves 1\n", 4, "this text has margins, not leaving rates"),
+    (START + "a margin 1\n", 3, "this text has leaving rates, not margins"),
+    ("reading margins\nstages " + " ".join(f"s{k}" for k in range(20)) + "\n\nstages "
+     + " ".join(f"t{k}" for k in range(13)) + "\n", 4, "stage 't12' is one too many: a sheet has at most 32 stages"),
+    (START + "a -> b\n", 3, "write 'FROM -> TO RATE'"),
+    (START + "a -> b 1 2\n", 3, "write 'FROM -> TO RATE'"),
+    (START + "a b 1\n", 3, "write 'FROM -> TO RATE'"),
+    (START + "a -> b 0,5\n", 3, "numbers have a decimal point"),
+    (START + "a leaves 0,5\n", 3, "numbers have a decimal point"),
+    (START + "unit 5\n", 3, "write 'FROM -> TO RATE'"),
+    (START + "key ceremony leaves 5\n", 3, "quote a name with spaces"),
+    (START + "stage\n", 3, "write 'stage NAME'"),
+    (START + "stages ,\n", 3, "write 'stage NAME'"),
+    (START + "stage key ceremony\n", 3, "quote a name with spaces"),
+    (START + "stages c -> d\n", 3, "write 'stage NAME'"),
+    (START + 'stage "c\n', 3, "a double quote is not closed"),
+    (START + 'stage ""\n', 3, "a stage has an empty name"),
+    (START + 'stage " "\n', 3, "a stage has an empty name"),
+    (START + 'stage "a\u0007b"\n', 3, "not printable"),
+    (START + "a,0,1,2\n", 3, "a row of a matrix stands among lines (a text keeps to one form)"),
+    (START + "a;0;1;2\n", 3, "a row of a matrix stands among lines"),
+    (START + "a\t0\t1\t2\n", 3, "a row of a matrix stands among lines"),
+    (MATRIX + "a,,1,\na -> b 1\n", 3, "a line of the other form stands in a matrix (a text keeps to one form)"),
+    (MATRIX + "a leaves 1\n", 2, "a line of the other form stands in a matrix"),
+    (MATRIX + "reading margins\n", 2, "a line of the other form stands in a matrix"),
+    ("from,a,b\na,,1\nb,,\n", 1, "'leaves' or 'margin' as its last cell"),
+    ("a,leaves\n", 1, "'leaves' or 'margin' as its last cell"),
+    ("from,a,,leaves\n", 1, "a stage has an empty name"),
+    ("from,a,b,a,leaves\n", 1, "stage 'a' is named twice (first on line 1)"),
+    ('from,"a""b",leaves\n', 1, "holds a double quote"),
+    ("from," + ",".join(f"s{k}" for k in range(33)) + ",leaves\n", 1, "stage 's32' is one too many"),
+    (MATRIX + "a,,1,\n\nc,,,1\n", 4, "unknown stage 'c'"),
+    (MATRIX + ",,1,\n", 2, "unknown stage ''"),
+    (MATRIX + "a,,1,\nb,,,1\na,,1,\n", 4, "stage 'a' has two rows (first on line 2)"),
+    ("# x\n" + MATRIX + "a,,1,1\n", 2, "stage 'b' has no row"),
+    (MATRIX + "a,1,1,\nb,,,1\n", 2, "stage 'a' has a rate to itself"),
+    (MATRIX + "a,x,1,\nb,,,1\n", 2, "stage 'a' has a rate to itself"),
+    (MATRIX + 'a,,"0,5",\nb,,,1\n', 2, "'0,5' is not a number"),
+    (MATRIX + "a,,-1,\nb,,,1\n", 2, "'-1' is negative"),
+    (MATRIX + "a,,1,-1\nb,,,1\n", 2, "'-1' is negative"),
+    (MATRIX + "a,,1,#REF!\nb,,,1\n", 2, "'#REF!' is not a number"),
+    (MATRIX + "a,,1,,9\nb,,,1\n", 2, "the row has 5 cells, the header has 4"),
+    (MATRIX + 'a,,"1,\nb,,,1\n', 2, "a double quote is not closed"),
+    (MATRIX + 'a,,"1"2,\nb,,,1\n', 2, "a double quote is not closed or stands inside a cell"),
+    ("from,a,b,margin\na,,1,1\nb,,,\n", 3, "stage 'b' has no margin"),
+    ("from,a,b,margin\na,,1,1\nb,,,0\n", 3, "the margin of 'b' is zero"),
+]
+
+
+class Errors(ToolTest):
+    """Errors are one line that names the file and the line, with exit status 1."""
+
+    def test_texts(self) -> None:
+        """Every error of a text."""
+        for text, line, words in ERRORS:
+            with self.subTest(text=text):
+                said = self.bad("make", self.write("line.txt", text))
+                self.assertTrue(said.startswith(f"line.txt:{line}: "), said)
+                self.assertIn(words, said)
+
+    def test_standard_input(self) -> None:
+        """A text on standard input has a name too."""
+        self.assertEqual(self.bad("make", "-", stdin=b"reading x\n"),
+                         "<stdin>:1: the reading is 'leaving-rates' or 'margins'")
+
+    def test_bytes(self) -> None:
+        """Bytes that are not UTF-8, and a text that is too long."""
+        self.assertEqual(self.bad("make", self.write("line.txt", b"reading margins\nstage a\n\xff\n")),
+                         "line.txt:3: this is not UTF-8 text")
+        self.assertRegex(self.bad("make", self.write("line.txt", b"#" * (1 << 20) + b"\n")), "^line.txt: .*longer")
+        self.assertRegex(self.bad("make", "/dev/zero"), "^/dev/zero: .*longer")
+
+    def test_no_file(self) -> None:
+        """A file that is not there."""
+        for arguments in (["make", "no.txt"], ["show", "no.txt"], ["table", "no.txt"],
+                          ["table", "--names", "no.txt"]):
+            self.assertEqual(self.bad(*arguments), "no.txt: No such file or directory")
+
+    def test_standard_input_twice(self) -> None:
+        """Standard input is read for one purpose."""
+        for arguments in (["show", "-", "--names", "-"], ["table", "--names", "-"], ["table", "-", "--names", "-"]):
+            self.assertIn("standard input cannot be read twice", self.bad(*arguments))
+
+    def test_usage(self) -> None:
+        """Help ends with status 0, a wrong command line with 2."""
+        for arguments in (["--help"], ["make", "--help"], ["show", "--help"], ["table", "--help"]):
+            self.assertIn(b"usage: sheet.py", self.good(*arguments))
+        self.assertIn(b"FROM", self.good("make", "--help").upper())
+        for arguments in ([], ["weigh"], ["make"], ["make", "a", "b"], ["show", "--hex", "x"]):
+            self.assertEqual(run(*arguments).status, 2)
+
+    def test_output(self) -> None:
+        """A reader that stops early and a full disk end the command without a trace of its inside."""
+        data = packed(2, 32, [nearest(Fraction(1 if k % 33 == 0 else -1)) for k in range(1024)])
+        name = self.write("line.sheet", data)
+        with open("/dev/full", "wb") as full:
+            result = process("show", name, stdout=full.fileno())
+        self.assertEqual((result.status, result.err), (1, "standard output: No space left on device\n"))
+        reader, writer = os.pipe()
+        os.close(reader)
+        result = process("show", name, stdout=writer)
+        os.close(writer)
+        self.assertEqual((result.status, result.err), (1, ""))
+        result = process("show", name)
+        self.assertEqual((result.status, result.err), (0, ""))
+        self.assertEqual(result, run("show", name))
+
+
+class Show(ToolTest):
+    """Sheet files as text."""
+
+    def test_round_trip(self) -> None:
+        """What make wrote comes back with the same bytes, with names and without, in either reading."""
+        rng = random.Random(3)
+        for n in (1, 2, 3, 4, 5, 8, 9, 16, 31, 32):
+            for reading in (1, 2):
+                typed = random_typed(rng, reading, n)
+                data = self.make(as_lines(typed))
+                self.write("line.sheet", data)
+                text = self.good("show", "line.sheet")
+                self.assertEqual(self.make(text, "shown.txt"), data)
+                named = self.good("show", "line.sheet", "--names", "line.txt")
+                self.assertEqual(self.make(named, "shown.txt"), data)
+                self.assertEqual(self.good("show", "-", "--names", "shown.txt", stdin=data), named)
+                self.assertEqual(self.good("show", "line.sheet", "--names", "-", stdin=named), named)
+                self.assertNotIn(b"#", re.sub(rb'"[^"]*"', b"", named))
+
+    def test_lines_and_numbers(self) -> None:
+        """The shown numbers are the shortest decimals that read back, one line each."""
+        rng = random.Random(4)
+        words = [0 if rng.random() < 0.3 else nearest(-value(random_text(rng))) for _ in range(49)]
+        for i in range(7):
+            words[i * 8] = nearest(value(random_text(rng)))
+        text = self.good("show", "-", stdin=packed(1, 7, words)).decode()
+        self.assertTrue(text.startswith("reading leaving-rates\nstages s1 s2 s3 s4 s5 s6 s7\n\n"))
+        found = [0] * 49
+        for i, shape, j, typed in re.findall(r"^s(\d) (->|leaves)(?: s(\d))? (\S+)$", text, re.MULTILINE):
+            place = (int(i) - 1) * 7 + int(j or i) - 1
+            self.assertEqual(shape == "leaves", place % 8 == 0)
+            found[place] = nearest(value(typed) if shape == "leaves" else -value(typed))
+            self.assert_shortest(typed, abs(number(words[place])))
+        self.assertEqual(found, words)
+        self.assertEqual(len([line for line in text.split("\n") if line]), 2 + sum(word != 0 for word in words))
+
+    def test_numbers_that_make_does_not_write(self) -> None:
+        """NaN, infinities, wrong signs, minus zeros and numbers below 2^-1022 are shown with their bits."""
+        cases = [(0x7ff8dead00000001, "nan", "nan"), (0xfff0000000000001, "nan", "nan"),
+                 (0x7ff0000000000000, "inf", "-inf"), (0xfff0000000000000, "-inf", "inf"),
+                 (0x8000000000000000, "-0", "0"), (1, "5e-324", "-5e-324"), (0x8000000000000001, "-5e-324", "5e-324"),
+                 (0x000fffffffffffff, "2.225073858507201e-308", None), (0x4014000000000000, None, "-5"),
+                 (0xc014000000000000, "-5", None)]
+        for word, diagonal, off in cases:
+            text = self.good("show", "-", stdin=packed(1, 2, [word, word, 0, 0])).decode()
+            if diagonal is not None:
+                self.assertIn(f"\ns1 leaves {diagonal}  # bits {word:016x}\n", text)
+            if off is not None:
+                self.assertIn(f"\ns1 -> s2 {off}  # bits {word:016x}\n", text)
+        self.assertIn("\ns1 margin 0  # bits 0000000000000000\n",
+                      self.good("show", "-", stdin=packed(2, 1, [0])).decode())
+        nan = self.good("show", "-", stdin=packed(1, 2, [0, 0x7ff8dead00000001, 0, 0]))
+        self.assertEqual(self.bad("make", "-", stdin=nan),
+                         "<stdin>:4: 'nan' is not a number (write it like 0.25, 1e-6 or 0x1p-20)")
+
+    def test_damaged_files(self) -> None:
+        """A file that dwell does not read is refused in words, by the same number and row."""
+        data = packed(1, 2, [nearest(Fraction(x)) for x in (1, -1, -1, 0)])
+        self.write("names.txt", "reading margins\nstages first second\n")
+        damaged = [data[:cut] for cut in (0, 5, 6, 9, 10, 15, 33, 34, 57)] + [data + b"\0", data + bytes(10000)]
+        damaged += [data[:at] + bytes([at + 3]) + data[at + 1:] for at in (0, 4, 6, 10, 14, 16, 34, 38, 40)]
+        damaged += [data[:8] + bytes([count]) + data[9:] for count in (0, 1, 3, 33)]
+        damaged += [struct.pack("<IH", length, 2) + bytes(10000) for length in (8453, 8454)]
+        for content in damaged:
+            printed = re.fullmatch(r"refused (\d+) (\d+) 0\n", dwell(content).decode())
+            assert printed is not None, content
+            row = int(printed[2])
+            said = self.bad("show", self.write("x.sheet", content), "--names", "names.txt")
+            place = f" at row {row}" if row else ""
+            self.assertTrue(said.startswith(f"x.sheet: refused ({printed[1]}{place}): the file "), said)
+            if row:
+                self.assertIn(f"stage {row} ({['first', 'second'][row - 1]})", said)
+        self.assertIn("refused (11", self.bad("show", "/dev/null"))
+        self.assertIn("refused (12", self.bad("show", "/dev/zero"))
+
+    def test_names(self) -> None:
+        """The names have to be as many as the stages; a matrix has names too."""
+        self.write("line.csv", "x,key check,b,margin\nkey check,,1,1\nb,,,1\n")
+        data = packed(1, 2, [nearest(Fraction(x)) for x in (1, -1, -1, 0)])
+        self.assertEqual(self.good("show", "-", "--names", "line.csv", stdin=data).decode(),
+                         'reading leaving-rates\nstages "key check" b\n\n"key check" -> b 1\n"key check" leaves 1\n\n'
+                         'b -> "key check" 1\n')
+        self.assertEqual(self.bad("show", "-", "--names", "line.csv", stdin=packed(1, 1, [0])),
+                         "line.csv: the text names 2 stages, <stdin> has 1")
+
+
+class Tables(ToolTest):
+    """dwell's output as a table."""
+
+    def check_table(self, typed: Typed) -> list[float] | None:
+        """make, dwell and table on a typed sheet against the exact inverse of what the sheet holds."""
+        self.write("line.txt", as_lines(typed))
+        printed = dwell(self.good("make", "line.txt"))
+        if printed.startswith(b"refused"):
+            return None
+        n = len(typed.names)
+        words = [int(line.split()[2], 16) for line in printed.decode().split("\n")[1:-1]]
+        out = self.good("table", "--names", "line.txt", stdin=printed)
+        first, cells, rows = split_table(out, typed.names)
+        self.assertEqual(first, "Seconds at each stage (columns) for a request that enters at the stage on the left:")
+        texts = [text for row in cells for text in row]
+        self.assertEqual([nearest(value(text)) for text in texts], words)
+        for text, word in zip(texts, words):
+            self.assert_shortest(text, number(word))
+        self.check_alignment(rows, typed.names)
+        allowance = (4 if typed.reading == 1 else 12) * n ** 3
+        exact = exact_inverse(exact_matrix(typed, rounded_value))
+        for place, word in enumerate(words):
+            self.assertTrue(is_near(number(word), exact[place // n][place % n], allowance))
+        self.check_accuracy_line(out, allowance)
+        self.check_hexadecimal(printed, typed.names, words)
+        return [number(word) for word in words]
+
+    def check_alignment(self, rows: Sequence[str], names: Sequence[str]) -> None:
+        """The units of the numbers of a column stand under each other."""
+        units = []
+        for name, row in zip(names, rows):
+            rest = " " * len(name) + row[len(name):]
+            units.append([found.end() for found in re.finditer(r"(?<!\S)(0x)?[0-9]+", rest)])
+        self.assertEqual(len({tuple(row) for row in units}), 1, "\n".join(rows))
+
+    def check_accuracy_line(self, out: bytes, allowance: int) -> None:
+        """The last line names the allowance and a bound of two digits that is just above it."""
+        last = re.fullmatch(r"Each number is within a factor \(1 \+ 1/2\^53\)\^(\d+) of the exact one, "
+                            r"off by at most (\d\.\de-\d+) of it\.", out.decode().split("\n")[-2])
+        self.assertIsNotNone(last)
+        assert last is not None
+        self.assertEqual(int(last[1]), allowance)
+        least = Fraction(allowance, 2 ** 53)
+        self.assertTrue(least / (1 - least) <= Fraction(last[2]) <= least * Fraction(111, 100))
+
+    def check_hexadecimal(self, printed: bytes, names: Sequence[str], words: Sequence[int]) -> None:
+        """With --hex the same bits are printed as hexadecimal floats without needless zeros."""
+        _, cells, rows = split_table(self.good("table", "--hex", "--names", "line.txt", stdin=printed), names)
+        texts = [text for row in cells for text in row]
+        self.assertEqual([nearest(value(text)) for text in texts], list(words))
+        for text in texts:
+            self.assertRegex(text, r"^0x(0p\+0|1(\.[0-9a-f]{0,12}[1-9a-f])?p[+-]\d+)$")
+        self.check_alignment(rows, names)
+
+    def test_random_sheets(self) -> None:
+        """Random sheets of both readings; leaving rates far below the rates."""
+        rng = random.Random(5)
+        accepted = 0
+        for n in (1, 2, 2, 3, 3, 4, 5, 6):
+            for reading in (1, 2):
+                accepted += self.check_table(random_typed(rng, reading, n, random_rate)) is not None
+        self.assertGreater(accepted, 8)
+
+    def test_thirty_two_stages(self) -> None:
+        """A line of 32 stages with a loop and leaving rates of a millionth."""
+        names = [f"bench {k}" for k in range(1, 33)]
+        rates = {(i, (i + 1) % 32): f"0.{i + 1}" for i in range(32)}
+        rates |= {(i, (i * 7 + 3) % 32): "0.25" for i in range(0, 32, 3) if (i * 6 + 2) % 32 not in (0, 31)}
+        typed = Typed(1, names, {pair: text for pair, text in rates.items() if pair[0] != pair[1]},
+                      {i: "1e-6" for i in range(32)})
+        self.assertIsNotNone(self.check_table(typed))
+
+    def test_without_names(self) -> None:
+        """Stages are s1, s2, ... without --names; a file is read as well as standard input."""
+        printed = dwell(packed(1, 2, [nearest(Fraction(x)) for x in (1, -1, -1, 0)]))
+        out = self.good("table", stdin=printed)
+        self.assertEqual(split_table(out, ["s1", "s2"])[1], [["1", "1"], ["1", "2"]])
+        self.assertEqual(self.good("table", "-", stdin=printed), out)
+        self.assertEqual(self.good("table", self.write("out.txt", printed)), out)
+
+    def test_names_from_standard_input(self) -> None:
+        """--names - beside a file; a text needs no more than its reading and its stages."""
+        self.write("out.txt", "seconds 1 12\n1 1 3fd5555555555555\n")
+        out = self.good("table", "out.txt", "--names", "-", stdin=b"reading margins\nstage only\n")
+        self.assertEqual(split_table(out, ["only"])[1], [["0.3333333333333333"]])
+        self.assertEqual(self.bad("table", "out.txt", "--names", "-", stdin=b"reading margins\nstages a b\n"),
+                         "<stdin>: the text names 2 stages, out.txt has 1")
+
+    def test_known_hexadecimals(self) -> None:
+        """Hexadecimal floats as C's printf writes them."""
+        for word, text in [(0x3fd5555555555555, "0x1.5555555555555p-2"), (0x3ff0000000000000, "0x1p+0"),
+                           (0, "0x0p+0"), (0x0010000000000001, "0x1.0000000000001p-1022"),
+                           (0x4028000000000000, "0x1.8p+3"),
+                           (0x7fefffffffffffff, "0x1.fffffffffffffp+1023"), (0x4030100000000000, "0x1.01p+4")]:
+            out = self.good("table", "--hex", stdin=f"seconds 1 4\n1 1 {word:016x}\n".encode())
+            self.assertEqual(split_table(out, ["s1"])[1], [[text]])
+
+    def test_not_dwells_output(self) -> None:
+        """Input that dwell did not print is told by its line."""
+        good = "seconds 2 32\n" + "".join(f"{place} 4000000000000000\n" for place in ("1 1", "1 2", "2 1", "2 2"))
+        for text, line in [("", 1), ("hello\n", 1), ("seconds 0 4\n", 1), ("seconds 33 4\n", 1), ("refused 7\n", 1),
+                           ("refused 7 1 1\nmore\n", 1), (good[:40], 3), (good.replace("1 2 4", "1 3 4"), 3),
+                           (good.replace("2 2 4", "2 2 g"), 5), (good + "2 3 4000000000000000\n", 6),
+                           (good.replace("seconds", "Seconds"), 1), (good.replace("2 1 4", "2 1  4"), 4)]:
+            self.assertTrue(self.bad("table", stdin=text.encode()).startswith(f"<stdin>:{line}: "), text)
+        self.assertEqual(self.bad("table", stdin=b"seconds 1 4\n\xff"), "<stdin>:2: this is not UTF-8 text")
+
+
+class Refusals(ToolTest):
+    """Refusals in words."""
+
+    WORDS = {1: "reading is neither 1", 2: "not from 1 to 32", 3: "n × n numbers", 4: "room lent", 5: "asked for",
+             6: "not a finite number", 7: "wrong sign", 8: "too small", 9: "never gets out", 10: "range of binary64",
+             11: "the file ends before", 12: "does not begin with the head", 13: "something else where",
+             14: "goes on after"}
+
+    def said(self, printed: bytes) -> str:
+        """What table says of a refusal, with names."""
+        self.write("names.txt", 'reading margins\nstages intake "key ceremony" signer\n')
+        return self.bad("table", "--names", "names.txt", stdin=printed)
+
+    def test_every_number(self) -> None:
+        """Each number from 1 to 14 in one sentence, with the place and the stages' names where it has them."""
+        for refusal, words in self.WORDS.items():
+            row = 2 if refusal in (6, 7, 8, 9, 11, 13) else 0
+            column = 3 if refusal in (6, 7, 8) else 0
+            sentence = self.said(f"refused {refusal} {row} {column}\n".encode())
+            place = f" at row {row}" * bool(row) + f", column {column}" * bool(column)
+            self.assertTrue(sentence.startswith(f"refused ({refusal}{place}): "), sentence)
+            self.assertTrue(sentence.endswith("."), sentence)
+            self.assertIn(words, sentence)
+            self.assertEqual("stage 2 (key ceremony)" in sentence, row == 2, sentence)
+            self.assertEqual("stage 3 (signer)" in sentence, column == 3, sentence)
+            self.assertNotRegex(sentence, r"[{}]|stage 0")
+
+    def test_places(self) -> None:
+        """On the diagonal it is a leaving rate or a margin, elsewhere a rate; row 0 of a file is its head."""
+        self.assertIn("the leaving rate or margin of stage 1 (intake) is", self.said(b"refused 6 1 1\n"))
+        self.assertIn("the rate from stage 1 (intake) to stage 2 (key ceremony) is", self.said(b"refused 6 1 2\n"))
+        self.assertIn("before the head is complete", self.said(b"refused 11 0 0\n"))
+        self.assertIn("the row of stage 3 (signer)", self.said(b"refused 11 3 0\n"))
+        self.assertIn("the row of stage 9 is", self.said(b"refused 11 9 0\n"))
+        self.assertIn("stage 9 never", self.said(b"refused 9 9 0\n"))
+        self.assertTrue(self.said(b"refused 77 0 0\n").startswith("refused (77): "))
+        self.assertIn("the rate from stage 1 to stage 2 is not", self.bad("table", stdin=b"refused 6 1 2\n"))
+
+    def test_through_dwell(self) -> None:
+        """Sheets that dwell refuses, through the program."""
+        one, sheet_a = nearest(Fraction(1)), packed(1, 1, [nearest(Fraction(2))])
+        for data, start in [
+                (packed(1, 2, [one, 0x7ff8000000000000, one, one]), "refused (6 at row 1, column 2): the rate from"),
+                (packed(2, 1, [0]), "refused (7 at row 1, column 1): the leaving rate or margin of"),
+                (packed(1, 2, [one, 0, 0x8000000000000001, one]), "refused (8 at row 2, column 1): the rate from"),
+                (packed(1, 2, [one, 0, 0, 0]), "refused (9 at row 2): a request at stage 2 (key ceremony) never"),
+                (packed(1, 1, [nearest(Fraction(2) ** 1022)]), "refused (10): "), (b"", "refused (11): "),
+                (sheet_a[:-1], "refused (11 at row 1): "), (b"\4\0\0\0\1\0\3\0\1\0", "refused (12): "),
+                (sheet_a[:14] + b"\3" + sheet_a[15:], "refused (13 at row 1): "),
+                (sheet_a + b"\0", "refused (14): ")]:
+            self.assertTrue(self.said(dwell(data)).startswith(start), start)
+
+    def test_a_trapped_text(self) -> None:
+        """From a text to the sentence."""
+        self.write("line.txt", "reading leaving-rates\nstages a b\na -> b 1\nb -> a 1\n")
+        said = self.bad("table", "--names", "line.txt", stdin=dwell(self.good("make", "line.txt")))
+        self.assertEqual(said, "refused (9 at row 1): a request at stage 1 (a) never gets out, since no chain of "
+                               "moves leads from there to a stage with a leaving rate above zero.")
+
+
+class Garbage(ToolTest):
+    """Whatever the input is, a command succeeds or says one line."""
+
+    def check(self, *arguments: str, stdin: bytes) -> None:
+        """Status 0 without a message, or 1 with one line and no output."""
+        result = run(*arguments, stdin=stdin)
+        self.assertIn((result.status, result.err.count("\n"), bool(result.out)), [(0, 0, True), (1, 1, False)],
+                      (stdin, result))
+
+    def changed(self, rng: random.Random, data: bytes, pieces: Sequence[bytes]) -> bytes:
+        """The data with a few stretches replaced by pieces."""
+        for _ in range(rng.randint(1, 4)):
+            at = rng.randint(0, len(data))
+            data = data[:at] + rng.choice(pieces) + data[at + rng.randint(0, 6):]
+        return data
+
+    def test_texts(self) -> None:
+        """Examples with stretches replaced; what make accepts comes back from show."""
+        rng = random.Random(6)
+        pieces = [b"", b"\n", b'"', b"#", b",", b";", b"\t", b"->", b" ", b"-", b"0", b"1e9", b"\xff", b"\0", b"\r",
+                  b"stages", b"reading", b"leaves", b"\xc2\xa0", b"\xe2\x80\xa8", b"\x0b", b"nan", b"a b"]
+        texts = [(ROOT / "examples" / name).read_bytes() for name in ("signing.txt", "panel.txt", "cards.csv")]
+        short = [re.sub(rb"(?m)^.?#.*\n", b"", text) for text in texts]
+        for _ in range(800):
+            text = self.changed(rng, rng.choice(short), pieces)
+            self.check("make", "-", stdin=text)
+            made = run("make", "-", stdin=text)
+            if made.status == 0:
+                shown = self.good("show", "-", "--names", self.write("line.txt", text), stdin=made.out)
+                self.assertEqual(self.good("make", "-", stdin=shown), made.out)
+
+    def test_files_and_output(self) -> None:
+        """Sheet files and dwell's output with bytes replaced."""
+        rng = random.Random(7)
+        pieces = [b"", b"\0", b"\1", b"\2", b"\x7f\xff", b"\n", b" ", b"3", b"ff", b"refused 1 2 3", b"\xc3"]
+        file = packed(2, 3, [nearest(Fraction(k % 4 == 0) - Fraction(1, 3)) for k in range(9)])
+        output = (b"seconds 2 32\n1 1 3ff0000000000000\n1 2 3ff0000000000000\n"
+                  b"2 1 3ff0000000000000\n2 2 7ff0000000000000\n")
+        for _ in range(300):
+            self.check("show", "-", stdin=self.changed(rng, file, pieces))
+            self.check("table", stdin=self.changed(rng, output, pieces))
+            self.check("table", "--hex", stdin=self.changed(rng, output, pieces))
+
+
+# ==== The examples and the walk-through ====
+
+def read_lines(path: Path) -> Typed:
+    """A text of lines, read in a few lines of its own (plain names only)."""
+    text = re.sub(r"#.*", "", path.read_text())
+    names = " ".join(re.findall(r"^stages (.*)$", text, re.MULTILINE)).split()
+    moves = re.findall(r"^(\w+) *-> *(\w+) +(\S+)", text, re.MULTILINE)
+    last = re.findall(r"^(\w+) +(?:leaves|margin) +(\S+)", text, re.MULTILINE)
+    return Typed(2 if "reading margins" in text else 1, names,
+                 {(names.index(a), names.index(b)): x for a, b, x in moves}, {names.index(a): x for a, x in last})
+
+
+def norm(matrix: Exact) -> Fraction:
+    """The largest sum of sizes in a row."""
+    return max(sum((abs(x) for x in row), Fraction(0)) for row in matrix)
+
+
+def to_digits(x: Fraction, digits: int) -> Fraction:
+    """A positive fraction rounded to so many decimal digits."""
+    exponent = 0
+    while x >= Fraction(10) ** (exponent + 1):
+        exponent += 1
+    while x < Fraction(10) ** exponent:
+        exponent -= 1
+    return round(x * Fraction(10) ** (digits - 1 - exponent)) / Fraction(10) ** (digits - 1 - exponent)
+
+
+class Examples(ToolTest):
+    """What the examples say is true."""
+
+    def seconds(self, name: str, names: Sequence[str]) -> list[list[Fraction]]:
+        """The table of an example, read from its decimals."""
+        path = str(ROOT / "examples" / name)
+        out = self.good("table", "--names", path, stdin=dwell(self.good("make", path)))
+        return [[value(text) for text in row] for row in split_table(out, names)[1]]
+
+    def test_signing(self) -> None:
+        """A condition number of 5.6e7: a rounded diagonal is off by 6.3e-11, dwell by less than 1e-15."""
+        typed = read_lines(ROOT / "examples" / "signing.txt")
+        self.assertEqual((typed.reading, len(typed.names), len(typed.rates), len(typed.diagonal)), (1, 5, 7, 5))
+        for i, leaving in typed.diagonal.items():
+            self.assertEqual(value(leaving) * 10 ** 6, max(value(x) for (k, _), x in typed.rates.items() if k == i))
+        matrix = exact_matrix(typed)
+        exact = exact_inverse(matrix)
+        self.assertEqual(to_digits(norm(matrix) * norm(exact), 2), Fraction("5.6e7"))
+        rounded = [[Fraction(number(nearest(x))) if i == j else x for j, x in enumerate(row)]
+                   for i, row in enumerate(matrix)]
+        changed = exact_inverse(rounded)
+        worst = max(abs(changed[i][j] / exact[i][j] - 1) for i in range(5) for j in range(5))
+        self.assertEqual(to_digits(worst, 2), Fraction("6.3e-11"))
+        for row, exact_row in zip(self.seconds("signing.txt", typed.names), exact, strict=True):
+            for x, y in zip(row, exact_row, strict=True):
+                self.assertLess(abs(x / y - 1), Fraction("1e-15"))
+
+    def test_panel(self) -> None:
+        """The margins give the rates of the comment, one row sum is negative, dwell is off by at most 1e-15."""
+        typed = read_lines(ROOT / "examples" / "panel.txt")
+        matrix = exact_matrix(typed)
+        self.assertEqual((typed.reading, typed.names), (2, ["packing", "test", "repair", "cut", "printer"]))
+        done = ["0.5", "0.2", "0.02", "0.025", "0.0125"]
+        self.assertEqual([matrix[i][i] for i in range(5)], [Fraction(text) for text in done])
+        self.assertEqual(sum(matrix[3]), Fraction("0.025") - Fraction("0.2"))
+        for row, exact_row in zip(self.seconds("panel.txt", typed.names), exact_inverse(matrix), strict=True):
+            for x, y in zip(row, exact_row, strict=True):
+                self.assertLessEqual(abs(x - y), y / 10 ** 15)
+
+    def test_cards(self) -> None:
+        """The matrix says the same as lines with its numbers."""
+        names = ["Receive", "Sign", "Key check", "Ship"]
+        typed = Typed(1, names, {(0, 1): "0.25", (1, 2): "0.125", (2, 1): "0.025", (2, 3): "0.22"},
+                      {2: "0.005", 3: "0.5"})
+        self.assertEqual(self.good("make", str(ROOT / "examples" / "cards.csv")), expected_file(typed))
+        exact = exact_inverse(exact_matrix(typed))
+        for row, exact_row in zip(self.seconds("cards.csv", names), exact, strict=True):
+            for x, y in zip(row, exact_row, strict=True):
+                self.assertLessEqual(abs(x - y), y / 10 ** 15)
+
+    def test_walk_through(self) -> None:
+        """Each command of the walk-through prints what stands below it."""
+        pages = [page for page in (ROOT / "README-tools.md", ROOT / "README.md") if page.exists()]
+        found = [re.findall(r"^```\n(\$ .*?)^```", page.read_text(), re.MULTILINE | re.DOTALL) for page in pages]
+        blocks = [block for of_page in found for block in of_page if "tools/sheet.py" in block]
+        self.assertTrue(blocks)
+        for folder in ("tools", "examples"):
+            os.symlink(ROOT / folder, Path(self.folder) / folder)
+        program = Path(self.folder) / "target" / "bin" / "dwell"
+        program.parent.mkdir(parents=True)
+        program.write_text(f"#!/bin/sh\ncd {shlex.quote(START_FOLDER)}\nexec {shlex.join(DWELL)}\n")
+        program.chmod(0o755)
+        for block in blocks:
+            for command, printed in re.findall(r"^\$ (.*)\n((?:(?!\$ ).*\n)*)", block, re.MULTILINE):
+                done = subprocess.run(["bash", "-c", command], stdout=subprocess.PIPE, stderr=subprocess.STDOUT,
+                                      cwd=self.folder, check=False)
+                self.assertEqual(done.stdout.decode(), printed, command)
+
+
+def main() -> int:
+    """Runs all tests; the exit status."""
+    suite = unittest.defaultTestLoader.loadTestsFromModule(sys.modules[__name__])
+    result = unittest.TextTestRunner(stream=sys.stdout).run(suite)
+    if result.wasSuccessful():
+        print(f"tools: all {result.testsRun} tests passed (dwell: {shlex.join(DWELL)})")
+    else:
+        print(f"tools: FAILED, {len(result.failures) + len(result.errors)} of {result.testsRun} tests")
+    return 0 if result.wasSuccessful() else 1
+
+
+if __name__ == "__main__":
+    sys.exit(main())
