@@ -1,11 +1,10 @@
 -- Laws of lists and tables of numbers: `stored` changes no value in range.
 use Prim.Native.Nat.{ℕ, zero, suc, _+_, _*_, _<_, _≤_}
-use native.Mathlib.Nat.{add-zero, zero-add, suc-mul}
+use native.Mathlib.Nat.{suc-mul, zero-mul, mul-le-mul-right}
 use native.Mathlib.Numerals.{add-one}
 use native.Mathlib.Omega.{arith}
 use mathlib.Core.List.{List, [], _∷_, _++_}
 use mathlib.Core.Path.{_≡_, refl, sym, ap, _∙_}
-use mathlib.Core.Logic.{⊎-elim}
 use lib.ListN.{length, getD, length-append, List·getD-append}
 use lib.Seq.{getD-at, getD-append-add}
 use native.Mathlib.Decide.{decLt}
@@ -31,10 +30,25 @@ module _ {A : Type 0} where
 
   pub length-rows : (f : ℕ → ℕ → A) (n m : ℕ) → length (rows f n m) ≡ m * n
   unfolding rows
-  length-rows f n zero = sym (simp native.Mathlib.Nat.zero-mul)
+  length-rows f n zero = rw zero-mul
   length-rows f n (suc m) =
       let e : length (rows f n m) + length (list (f m) n) ≡ suc m * n = rw (length-rows f n m, length-list (f m) n, suc-mul) refl in
       length-append (rows f n m) (list (f m) n) ∙ e
+
+  rows-more :
+      (f : ℕ → ℕ → A) (other : A) (n m i j : ℕ) → i < suc m → j < n → (i < m → getD (rows f n m) (i * n + j) other ≡ f i j) → Dec (i < m)
+      → getD (rows f n (suc m)) (i * n + j) other ≡ f i j
+  unfolding rows
+  rows-more f other n m i j h k before (yes l) =
+      let inside : i * n + j < length (rows f n m) = omega (arith, length-rows f n m, suc-mul i n, mul-le-mul-right n l) in
+      List·getD-append (rows f n m) (list (f m) n) other (i * n + j) inside ∙ before l
+  rows-more f other n m i j h k before (no l) =
+      let last : i ≡ m = omega arith in
+      rw (last, ← length-rows f n m) (getD-append-add (rows f n m) (list (f m) n) j other ∙ list-at (f m) other n j k)
+
+  pub rows-at : (f : ℕ → ℕ → A) (other : A) (n m i j : ℕ) → i < m → j < n → getD (rows f n m) (i * n + j) other ≡ f i j
+  rows-at f other n zero i j h k = absurd (omega arith)
+  rows-at f other n (suc m) i j h k = rows-more f other n m i j h k (λ l. rows-at f other n m i j l k) (decLt i m)
 
   pub stored-at : (other : A) (n : ℕ) (f : ℕ → A) (i : ℕ) → i < n → stored other n f i ≡ f i
   unfolding stored

@@ -1,0 +1,50 @@
+-- How long the lines are: an entry's line has at most 23 bytes for row and column up to 32, and the whole text at most 32,768.
+use mathlib.Core.Path.{refl}
+use Prim.Native.Nat.{ℕ, zero, suc, _+_, _*_, _^_, _≤_, _<_}
+use native.Mathlib.Omega.{arith}
+use mathlib.Core.List.{List, _++_}
+use lib.ListN.{length, length-append}
+use lib.Ieee.{Float, binary64, toBits}
+use Rattle.definitions.specs.Dwell.{text, refusedLine, secondsLine, entryLine, rowLines, tableLines}
+use Rattle.text.specs.Pasted.{Room}
+use Rattle.text.proofs.Digits.{decimal-at-most, length-hexadecimal}
+use Rattle.text.proofs.Lines.{refused-pieces, seconds-pieces, entry-pieces, row-none, row-grows, table-none, table-grows}
+
+pub length-refused : (number row column : ℕ) → number < 10 ^ 20 → row < 10 ^ 20 → column < 10 ^ 20 → length (refusedLine number row column) ≤ 71
+unfolding text
+length-refused number row column a b c =
+    rw (refused-pieces number row column) (simp length-append
+    (omega (arith, decimal-at-most 19 number a, decimal-at-most 19 row b, decimal-at-most 19 column c)))
+
+pub length-seconds : (n allowed : ℕ) → n < 10 ^ 20 → allowed < 10 ^ 20 → length (secondsLine n allowed) ≤ 50
+unfolding text
+length-seconds n allowed a b =
+    rw (seconds-pieces n allowed) (simp length-append (omega (arith, decimal-at-most 19 n a, decimal-at-most 19 allowed b)))
+
+pub length-entry : (row column : ℕ) (x : Float) → row ≤ 32 → column ≤ 32 → length (entryLine row column x) ≤ 23
+length-entry row column x a b =
+    rw (entry-pieces row column x (toBits binary64 x) refl) (simp length-append
+    (omega (arith, decimal-at-most 1 row (omega arith), decimal-at-most 1 column (omega arith), length-hexadecimal 16 (toBits binary64 x))))
+
+module _ (x : ℕ → ℕ → Float) where
+  pub length-row : (i m : ℕ) → i < 32 → m ≤ 32 → length (rowLines x i m) ≤ 23 * m
+  length-row i zero a b = rw row-none (omega arith)
+  length-row i (suc m) a b =
+      rw (row-grows, length-append) (omega (arith, length-row i m a (omega arith), length-entry (i + 1) (m + 1) (x i m) (omega arith) (omega arith)))
+
+  pub length-table : (n m : ℕ) → n ≤ 32 → m ≤ 32 → length (tableLines x n m) ≤ 736 * m
+  length-table n zero a b = rw table-none (omega arith)
+  length-table n (suc m) a b =
+      rw (table-grows, length-append) (omega (arith, length-table n m a (omega arith), length-row m n (omega arith) a))
+
+-- A whole text, and room for it in a buffer of 32,768 bytes.
+pub length-whole : (n allowed : ℕ) (x : ℕ → ℕ → Float) → n ≤ 32 → allowed < 10 ^ 20 → length (secondsLine n allowed ++ tableLines x n n) ≤ 32768
+length-whole n allowed x a b = rw length-append (omega (arith, length-seconds n allowed (omega arith) b, length-table x n n a a))
+
+pub refused-room : (number row column : ℕ) (out : List ℕ) → number < 10 ^ 20 → row < 10 ^ 20 → column < 10 ^ 20 → 32768 ≤ length out
+    → Room (refusedLine number row column) 0 out
+refused-room number row column out a b c h = record { within = omega (arith, length-refused number row column a b c) }
+
+pub seconds-room : (n allowed : ℕ) (x : ℕ → ℕ → Float) (out : List ℕ) → n ≤ 32 → allowed < 10 ^ 20 → 32768 ≤ length out
+    → Room (secondsLine n allowed ++ tableLines x n n) 0 out
+seconds-room n allowed x out a b h = record { within = omega (arith, length-whole n allowed x a b) }
