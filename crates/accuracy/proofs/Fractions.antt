@@ -347,11 +347,3 @@ value-den x = refl
 -- A good number is so many units of 2^-1074.
 pub value-ratio : {x : Float} → Good x → Ratio (value x) (units x) 0 one·units
 value-ratio {x} g = record { across = rw (value-num x, good-numerator x g, value-den x) (omega arith) }
-
-pub one·units-positive : 0 < one·units
-unfolding one·units
-one·units-positive = one-le-pow 1074 2 (lit< tt)
-
-pub good-finite : (x : Float) → Good x → T (finite x)
-unfolding finite
-good-finite = by-parts binary64 (λ x. T (finite x)) (λ m e g. tt)

@@ -18,7 +18,7 @@ use Rattle.rounding.specs.Good.{Good, one·units}
 use Rattle.rounding.proofs.Laws.{product-good, product-rounds, quotient-good, quotient-rounds, zero-is-good, units-zero, one-is-good, units-one}
 use Rattle.steps.proofs.Margins.{known-is, x-kept, join-corner, join-row, join-column, join-other}
 use Rattle.accuracy.specs.LeavingRates.{Computed, EngineAccuracy}
-use Rattle.accuracy.proofs.Operations.{one-pos}
+use Rattle.rounding.proofs.Range.{one-pos}
 use Rattle.accuracy.proofs.MarginsExact.{exactH, exactA, leads-to}
 use Rattle.accuracy.proofs.MarginsJoins.{Part, part-same, columnSum, corner, joined, joined-other, joined-corner, joined-column, joined-row, join-part}
 use Rattle.accuracy.proofs.MarginsStart.{startOver, startTable, start-part}

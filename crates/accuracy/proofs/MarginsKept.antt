@@ -28,7 +28,7 @@ use Rattle.steps.proofs.Compact.{rank-below, stage-of-rank, Listed, listed}
 use Rattle.accuracy.specs.LeavingRates.{inUnits, identityColumn, GoodSystem, Computed, EngineWithin, EngineAccuracy}
 use Rattle.accuracy.specs.Reduction.{delta}
 use Rattle.accuracy.proofs.PartialSums.{delta-other}
-use Rattle.accuracy.proofs.Operations.{one-pos}
+use Rattle.rounding.proofs.Range.{one-pos}
 use Rattle.accuracy.proofs.MarginsCounts.{hCount, systemCount, answerCount, product-count, size-count, exit-count}
 use Rattle.accuracy.proofs.MarginsExact.{exactA, exitSum, keptRows, a-pos, k-rest, k-zero, h-zero, kept-out}
 use Rattle.accuracy.proofs.MarginsStart.{rightSide, over, answer, answer-solves, share, startOver, start-over, startTable, start-kept}

@@ -19,7 +19,7 @@ use Rattle.rounding.specs.Good.{Good, one·units}
 use Rattle.rounding.proofs.Laws.{sum-good, sum-rounds, product-good, product-rounds, quotient-good, quotient-rounds, quotient-cases, divisor-above-zero, zero-is-good, units-zero, is-zero}
 use Rattle.steps.proofs.Margins.{h-is, a-is, kept-is}
 use Rattle.accuracy.specs.Margins.{GoodMargins, sizesInUnits, marginsInUnits}
-use Rattle.accuracy.proofs.Operations.{one-pos}
+use Rattle.rounding.proofs.Range.{one-pos}
 use Rattle.accuracy.specs.Ratios.{H, Ratios}
 use Rattle.accuracy.proofs.MarginsExact.{exactH, exactA, a-pos}
 use Rattle.accuracy.proofs.MarginsStart.{KeptTest}

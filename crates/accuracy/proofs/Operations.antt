@@ -14,11 +14,8 @@ use Rattle.definitions.specs.Numbers.{_⊕_, _⊗_, _⊘_, divInRange, addProdu
 use Rattle.rounding.specs.Good.{Good, one·units}
 use Rattle.rounding.proofs.Laws.{sum-good, sum-rounds, product-good, product-rounds, quotient-good, quotient-rounds}
 use Rattle.rounding.proofs.Sums.{range-before, range-last, sum-is-good}
+use Rattle.rounding.proofs.Range.{one-pos}
 use Rattle.accuracy.proofs.Range.{product-in-range, addition-in-range}
-
-pub one-pos : 0 < one·units
-unfolding one·units
-one-pos = pow-pos 1074
 
 -- x + (t / p)·y: the product has two roundings, the sum one more, so the whole has three more than the pivot p has against
 -- the exact pivot P.

@@ -24,7 +24,8 @@ use Rattle.definitions.specs.Accuracy.{growth, Within}
 use Rattle.rounding.specs.Good.{Good, one·units}
 use Rattle.accuracy.specs.Reduction.{plusPart, minusPart, Ratio, delta, RowForm, Columns, Regular, Apart, Reduction, SystemReduction}
 use Rattle.accuracy.proofs.PartialSums.{delta-other, delta-times, sum-delta, sum-mix, sum-factor}
-use Rattle.accuracy.proofs.Fractions.{times, own-ratio, ratio-as, ratio-carry, ratios-agree, ratio-of-equal, same-ratio, ratio-scale, ratio-mul, plain-mul, ratio-total, plain-le, plain-sign, whole-ratio, max-one, value-ratio, good-finite, one·units-positive}
+use Rattle.rounding.proofs.Range.{one-pos, good-finite}
+use Rattle.accuracy.proofs.Fractions.{times, own-ratio, ratio-as, ratio-carry, ratios-agree, ratio-of-equal, same-ratio, ratio-scale, ratio-mul, plain-mul, ratio-total, plain-le, plain-sign, whole-ratio, max-one, value-ratio}
 
 -- The entry (i, j) of the identity.
 delta-whole : (i j : ℕ) → Ratio (cond (eqb i j) (whole 1) (whole 0)) (delta i j 1) 0 1
@@ -127,11 +128,11 @@ entry-within E x z d l g h =
     let v = value-ratio g in
     let r = quotient-ratio z d l in
     record {
-      number = good-finite x g;
-      x-sign = plain-sign one·units-positive v;
+      number = good-finite g;
+      x-sign = plain-sign one-pos v;
       y-sign = plain-sign l r;
-      upper = plain-le one·units-positive (mul-pos l (base-power E)) v (plain-mul r (growth-ratio E)) (omega (arith, h .upper));
-      lower = plain-le l (mul-pos one·units-positive (base-power E)) r (plain-mul v (growth-ratio E)) (omega (arith, h .lower));
+      upper = plain-le one-pos (mul-pos l (base-power E)) v (plain-mul r (growth-ratio E)) (omega (arith, h .upper));
+      lower = plain-le l (mul-pos one-pos (base-power E)) r (plain-mul v (growth-ratio E)) (omega (arith, h .lower));
     }
 
 -- ---- the rule

@@ -16,7 +16,8 @@ use Rattle.accuracy.specs.Reduction.{Ratio, delta}
 use Rattle.accuracy.specs.Ratios.{H, Ratios}
 use Rattle.accuracy.specs.RowForms.{InUnits, LeavingRatesRows, MarginsRows}
 use Rattle.accuracy.proofs.PartialSums.{not-equal, sum-except, sum-below, sum-above}
-use Rattle.accuracy.proofs.Fractions.{times, ratio-as, ratio-carry, ratio-neg, plain-both, plain-scale, plain-add, plain-mul, plain-div, plain-total, value-ratio, one·units-positive}
+use Rattle.rounding.proofs.Range.{one-pos}
+use Rattle.accuracy.proofs.Fractions.{times, ratio-as, ratio-carry, ratio-neg, plain-both, plain-scale, plain-add, plain-mul, plain-div, plain-total, value-ratio}
 
 -- A row with its diagonal entry and, off it, minus the size f_ij.
 row-entry :
@@ -111,7 +112,7 @@ leaving-rates-rows n sheet t s h =
     let g = exactDiagonal n sheet in
     let sizes = exact-size n sheet t s h in
     record {
-      positive = λ i l. one·units-positive;
+      positive = λ i l. one-pos;
       entry =
           λ i j l o.
           row-entry i j (s i + sum (t i) 0 n) one·units (rowSum n f g i) (f i) (t i)
@@ -125,7 +126,7 @@ margins-rows n sheet t d D K h r =
     let g = exactDiagonal n sheet in
     let sizes = exact-size n sheet t d h in
     let diagonals = exact-diagonal n sheet t d h in
-    let u = one·units-positive in
+    let u = one-pos in
     record {
       positive = λ i l. mul-pos u (r .positive);
       entry =

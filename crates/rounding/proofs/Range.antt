@@ -95,7 +95,7 @@ product-zero-test a b = elim (eq-zero-or-pos b) [
     or-false true = refl
     or-false false = refl
 
-one-pos : 0 < one·units
+pub one-pos : 0 < one·units
 unfolding one·units
 one-pos = pow-pos 1074
 
