@@ -13,24 +13,17 @@ use Rattle.exact.specs.Sums.{sum}
 use Rattle.exact.specs.Systems.{System, diag, mix, Holds, Solves, AllOut, moves, exits}
 use Rattle.exact.proofs.Sums.{sum-last, sum-cong}
 use Rattle.definitions.specs.Margins.{stagesWith, rank}
-use Rattle.steps.proofs.Compact.{rank-none, rank-take, rank-leave, rank-below, list-longer, stage-of-rank, listed}
+use Rattle.steps.proofs.Compact.{by-test, rank-none, rank-take, rank-leave, rank-below, list-longer, stage-of-rank, listed}
 
 module _ (test : ℕ → Bool) where
   abbrev pub stage : ℕ → ℕ → ℕ
   stage n p = getD (stagesWith test n) p 0
 
-  pub by-test : {P : Type 0} (n : ℕ) → (test n ≡ true → P) → (test n ≡ false → P) → P
-  by-test {P} n yes′ no′ = go′ (test n) refl
-    where
-      go′ : (b : Bool) → test n ≡ b → P
-      go′ true e = yes′ e
-      go′ false e = no′ e
-
   pub rank-bound : (n : ℕ) → rank test n ≤ n
   rank-bound zero = omega (arith, rank-none test)
   rank-bound (suc n) =
       let b = rank-bound n in
-      by-test n (λ e. omega (arith, rank-take test n e)) (λ e. omega (arith, rank-leave test n e))
+      by-test test n (λ e. omega (arith, rank-take test n e)) (λ e. omega (arith, rank-leave test n e))
 
   -- A sum over the listed stages is the sum over all, where the other terms are zero.
   abbrev listedSum : (ℕ → ℕ) → ℕ → ℕ
@@ -41,7 +34,7 @@ module _ (test : ℕ → Bool) where
       → sum (λ p. f (stage n p)) 0 (rank test n) ≡ sum f 0 n
   unfolding sum
   sum-packed f zero z = rw (rank-none test)
-  sum-packed f (suc n) z = let ih = sum-packed f n (λ i b. z i (omega arith)) in by-test n (taken ih) (left ih)
+  sum-packed f (suc n) z = let ih = sum-packed f n (λ i b. z i (omega arith)) in by-test test n (taken ih) (left ih)
     where
       same : (p : ℕ) → In 0 (rank test n) p → f (stage (suc n) p) ≡ f (stage n p)
       same p l = ap f (rw (add-one n) at (list-longer test n 1 p (omega arith)))
@@ -94,7 +87,7 @@ module _ (test : ℕ → Bool) where
         go {i = p} {j = q} (subst₂ (λ x y. T (moves A x y)) (sym f) (sym sq) t) (omega arith) (packed-chain c bj q lq sq)
       where
         listed-move : (j : ℕ) → j < n → T (moves A i j) → test j ≡ true
-        listed-move j bj t = by-test j (λ e. e) (λ e. absurd (omega (arith, ltb→lt zero (A i .size j) t, empty i j b bj e)))
+        listed-move j bj t = by-test test j (λ e. e) (λ e. absurd (omega (arith, ltb→lt zero (A i .size j) t, empty i j b bj e)))
 
     pub packed-out : AllOut 0 n A → AllOut 0 (rank test n) (packed n A)
     packed-out o =

@@ -17,7 +17,7 @@ use Rattle.accuracy.specs.Ratios.{Ratios}
 use Rattle.accuracy.proofs.PartialSums.{delta-other}
 use Rattle.accuracy.proofs.MarginsExact.{exactH, diagonal, beside, keptRows, k-zero, h-zero, kept-out, kept-row}
 use Rattle.accuracy.proofs.MarginsJoins.{Part}
-use Rattle.accuracy.proofs.MarginsPacked.{by-test}
+use Rattle.steps.proofs.Compact.{by-test}
 
 module _ {n : ℕ} {t : ℕ → ℕ → ℕ} {d : ℕ → ℕ} {D : ℕ} {K : ℕ → ℕ} (x : Ratios n t d D K) where
   -- The right side of column j, and the exact solution of the kept system with it: `answer j` over `over j`.

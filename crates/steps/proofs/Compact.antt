@@ -36,7 +36,7 @@ module _ (test : ℕ → Bool) where
   unfolding rank
   rank-leave n e = ap length (list-leave n e)
 
-  by-test : {P : Type 0} (n : ℕ) → (test n ≡ true → P) → (test n ≡ false → P) → P
+  pub by-test : {P : Type 0} (n : ℕ) → (test n ≡ true → P) → (test n ≡ false → P) → P
   by-test {P} n yes′ no′ = go (test n) yes′ no′ refl
     where
       go : (b : Bool) → (test n ≡ true → P) → (test n ≡ false → P) → test n ≡ b → P
