@@ -1,0 +1,56 @@
+-- From the answer to the area: a sheet is a file that is accepted and that fits, and its numbers are due; a refusal leaves every place as it was.
+use Prim.Native.Nat.{ℕ, _*_, _≤_}
+use mathlib.Core.List.{List}
+use mathlib.Core.Path.{_≡_, refl, sym, ap, _∙_}
+use Rattle.definitions.specs.Questions.{Asked, pass, refuse}
+use Rattle.definitions.specs.Services.{answer, given, refused, filled}
+use Rattle.definitions.specs.File.{Head, headReading, headStages, fileQuestions, fileAnswer}
+use Rattle.file.specs.declared.Loaded.{Loaded}
+use Rattle.file.specs.declared.Loaded.the-variants.{Sheet, Refused}
+use Rattle.file.specs.Loaded.{loaded, SheetFile}
+use Rattle.file.proofs.Words.{room-held}
+
+given-passes : (asked : Asked) (head due : Head) → given head ≡ answer asked due → asked ≡ pass
+given-passes pass head due e = refl
+given-passes (refuse number row column) head due e = cc
+
+given-is : (asked : Asked) (head due : Head) → given head ≡ answer asked due → head ≡ due
+given-is pass head due e = cc
+given-is (refuse number row column) head due e = cc
+
+refused-keeps : {A : Type 0} (asked : Asked) (due : Head) (number row column : ℕ) (new area : List A) → refused number row column ≡ answer asked due → area ≡ filled asked new area
+refused-keeps pass due number row column new area e = cc
+refused-keeps (refuse a b c) due number row column new area e = refl
+
+module _ (bytes : List ℕ) (room : ℕ) {r : Loaded} (answered : loaded r ≡ fileAnswer bytes room) where
+  module _ {reading n : ℕ} (sheet : r ≡ Sheet reading n) where
+    head : Head
+    head = record { reading = reading; n = n }
+
+    head-due : Head
+    head-due = record { reading = headReading bytes; n = headStages bytes }
+
+    due : given head ≡ answer (fileQuestions bytes room) head-due
+    unfolding loaded fileAnswer head head-due
+    due = rw sheet at answered
+
+    passes : fileQuestions bytes room ≡ pass
+    passes = given-passes (fileQuestions bytes room) head head-due due
+
+    pub sheet-file : SheetFile bytes n
+    unfolding head head-due
+    sheet-file = record { room = room; passes = passes; stages = ap (λ h. h .n) (sym (given-is (fileQuestions bytes room) head head-due due)) }
+
+    -- What filling the area asks.
+    pub to-fill : SheetFile bytes n × (n * n ≤ room)
+    unfolding sheet-file
+    to-fill = (sheet-file, room-held bytes n sheet-file)
+
+    -- The two promises, where the new numbers were written over the area's start.
+    pub sheet-read : {A : Type 0} (new area : List A) {exit : List A} → exit ≡ filled pass new area → (loaded (Sheet reading n) ≡ fileAnswer bytes room) × (exit ≡ filled (fileQuestions bytes room) new area)
+    sheet-read new area e = (ap loaded (sym sheet) ∙ answered, rw passes e)
+
+  -- The two promises, where nothing was written.
+  pub refusal-read : {A : Type 0} (new area : List A) {number row column : ℕ} → r ≡ Refused number row column → (loaded r ≡ fileAnswer bytes room) × (area ≡ filled (fileQuestions bytes room) new area)
+  unfolding loaded fileAnswer
+  refusal-read new area e = (answered, refused-keeps (fileQuestions bytes room) _ _ _ _ new area (rw e at answered))

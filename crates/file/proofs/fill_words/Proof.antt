@@ -1,0 +1,63 @@
+-- `file::fill_words` meets its contract. The loop's invariant: the first k places are written. Assumes nothing.
+use Prim.Native.Nat.{_-_, _*_}
+use native.Mathlib.Omega.{arith}
+use Rattle.definitions.specs.File.{fileWords}
+use Rattle.file.proofs.Filling.{Filling, none-yet, one-more, all-written}
+use Rattle.file.proofs.Words.{few-words, file-words-length}
+use Rattle.file.proofs.fill_words.Statement.{statement}
+use Rattle.file.proofs.fill_words.Tie as tie
+
+abbrev Inv-loop : tie.InvT-loop
+Inv-loop bytes n area₀ words k₀ area k = Filling (fileWords bytes) area₀ area n k
+
+abbrev μ-loop : tie.MeasureT-loop
+μ-loop bytes n area₀ words k₀ area k = n * n - k
+
+loop-holds : tie.Need-loop-holds Inv-loop μ-loop
+loop-holds c =
+    let s = c .before .before in
+    none-yet (few-words (s .args .bytes .now) (s .args .n) (s .pre .0)) (file-words-length (s .args .bytes .now) (s .args .n) (s .pre .0)) (s .pre .1)
+
+mul-words : tie.Need-mul-words Inv-loop μ-loop
+mul-words c = omega (arith, few-words (c .before .before .args .bytes .now) (c .before .before .args .n) (c .before .before .pre .0))
+
+word-of-requires : tie.Need-word-of-requires Inv-loop μ-loop
+word-of-requires c κs = (c .before .before .before .before .pre .0, c .loop-test .taken)
+
+mul-area : tie.Need-mul-area Inv-loop μ-loop
+mul-area c = omega arith
+
+slice-write-area : tie.Need-slice-write-area Inv-loop μ-loop
+slice-write-area c = omega arith
+
+add-k : tie.Need-add-k Inv-loop μ-loop
+add-k c = omega arith
+
+loop-less : tie.Need-loop-less Inv-loop μ-loop
+loop-less c = omega arith
+
+loop-again : tie.Need-loop-again Inv-loop μ-loop
+loop-again c = one-more (c .word-of .result) 0 (c .before .before .loop .inv) (c .before .loop-test .taken) (c .word-of .ensures)
+
+same-length : tie.Need-same-length Inv-loop μ-loop
+same-length c = c .before .loop .inv .same
+
+returns : tie.Need-returns Inv-loop μ-loop
+returns c = all-written (c .before .loop .inv) (c .loop-test .left)
+
+pub fill-words-spec : {M : Type 1} → statement M
+fill-words-spec =
+    tie.close
+    (tie.spec
+    Inv-loop
+    μ-loop
+    mul-words
+    loop-holds
+    word-of-requires
+    mul-area
+    slice-write-area
+    add-k
+    loop-less
+    loop-again
+    same-length
+    returns)

@@ -1,0 +1,66 @@
+-- `file::is_good_row` meets its contract: at each `return` the numbers read so far decide question 13. Assumes nothing.
+use borrow.Author.Needs.{needs}
+use native.Mathlib.Omega.{arith}
+use Prim.Native.Nat.{_+_, _*_}
+use mathlib.Core.Path.{_≡_}
+use lib.ListN.{drop}
+use Rattle.definitions.specs.File.{little, recordLength}
+use Rattle.file.proofs.Records.{row-kind, row-length, row-number}
+use Rattle.file.proofs.is_good_row.Statement.{statement}
+use Rattle.file.proofs.is_good_row.Tie as tie
+
+add-field-at : tie.Need-add-field-at
+add-field-at c = search needs
+
+field-at-requires : tie.Need-field-at-requires
+field-at-requires c κs = search needs
+
+returns : tie.Need-returns
+returns c =
+    let a = c .before .before .before .args in
+    row-kind (a .bytes .now) (a .at) (a .n) (a .due) (c .before .field-at .result) (c .before .field-at .ensures) (c .if1 .taken)
+
+field-at-requires-2 : tie.Need-field-at-requires-2
+field-at-requires-2 c κs = search needs
+
+mul-if2 : tie.Need-mul-if2
+mul-if2 c = search needs
+
+add-if2 : tie.Need-add-if2
+add-if2 c = search needs
+
+returns-2 : tie.Need-returns-2
+returns-2 c =
+    let a = c .before .before .before .before .before .args in
+    let kind : little 2 (drop (a .at + 4) (a .bytes .now)) ≡ 2 = omega arith in
+    row-length (a .bytes .now) (a .at) (a .n) (a .due) (c .before .field-at2 .result) kind (c .before .field-at2 .ensures) (c .if2 .taken)
+
+add-field-at-2 : tie.Need-add-field-at-2
+add-field-at-2 c = search needs
+
+field-at-requires-3 : tie.Need-field-at-requires-3
+unfolding recordLength
+field-at-requires-3 c κs = omega arith
+
+returns-3 : tie.Need-returns-3
+unfolding recordLength
+returns-3 c =
+    let a = c .before .before .before .before .before .before .args in
+    let kind : little 2 (drop (a .at + 4) (a .bytes .now)) ≡ 2 = omega arith in
+    let size : recordLength (drop (a .at) (a .bytes .now)) ≡ 2 + 8 * a .n = omega arith in
+    row-number (a .bytes .now) (a .at) (a .n) (a .due) (c .field-at3 .result) kind size (c .field-at3 .ensures)
+
+pub is-good-row-spec : {M : Type 1} → statement M
+is-good-row-spec =
+    tie.close
+    (tie.spec
+    add-field-at
+    field-at-requires
+    returns
+    field-at-requires-2
+    mul-if2
+    add-if2
+    returns-2
+    add-field-at-2
+    field-at-requires-3
+    returns-3)
