@@ -6,11 +6,11 @@ use Rattle.definitions.specs.Numbers.{_⊗_, _⊘_, 0·0, smallest, finite, isZ
 use Rattle.rounding.specs.Steps.{resultInRange}
 
 -- The literals 0.0 and 2.2250738585072014e-308, as the program has them.
-zero-word : ofBits binary64 0 ≡ 0·0
+pub zero-word : ofBits binary64 0 ≡ 0·0
 unfolding ofBits
 zero-word = refl
 
-smallest-word : ofBits binary64 4503599627370496 ≡ smallest
+pub smallest-word : ofBits binary64 4503599627370496 ≡ smallest
 unfolding ofBits
 smallest-word = refl
 

@@ -1,0 +1,11 @@
+pub mod Bools
+pub mod Then
+pub mod Shape
+pub mod Rows
+pub mod Places
+pub mod Any
+pub mod Counts
+pub mod Stages
+pub mod Passes
+pub mod Input
+pub mod Chains
