@@ -27,7 +27,8 @@ use Rattle.accuracy.specs.Ratios.{RatiosExist}
 use Rattle.accuracy.specs.RowForms.{InUnits}
 use Rattle.accuracy.specs.Readings.{LeavingRatesReduced, MarginsReduced}
 use Rattle.accuracy.specs.Margins.{GoodMargins, sizesInUnits, marginsInUnits, MarginsAccuracy}
-use Rattle.accuracy.proofs.Input.{then-first, then-next, ask-yes, table-numbers, size-is, diagonal-is, input-good, input-positive, input-out}
+use Rattle.steps.proofs.Questions.{then-first, then-next, ask-yes}
+use Rattle.accuracy.proofs.Input.{table-numbers, size-is, diagonal-is, input-good, input-positive, input-out}
 use Rattle.accuracy.proofs.Range.{table-shared, table-column}
 use Rattle.accuracy.proofs.LeavingRates.{engine-accuracy}
 use Rattle.accuracy.proofs.Ratios.{ratios-exist}

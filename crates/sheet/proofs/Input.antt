@@ -13,48 +13,11 @@ use borrow.Author.Tests.{leb-true, eqb-true, eq-eqb}
 use Rattle.definitions.specs.Numbers.{finite}
 use Rattle.definitions.specs.Sheet.{place}
 use Rattle.definitions.specs.Questions.{Asked, pass, _then_, ask, askRow, askRows, askStages, question1, question2, question3, question4, question5, question6, question7, question8, question9, rightSign, largeEnough, getsOut, numberQuestions, tableInput, entryInput}
+use Rattle.steps.proofs.Questions.{rows-yes, stages-yes}
 use Rattle.sheet.specs.Input.{Input}
 use Rattle.sheet.proofs.Bools.{and-both, or-cases}
 use Rattle.sheet.proofs.Then.{both}
 use Rattle.sheet.proofs.Shape.{asked-yes, stages-asked, few-stages, holds-pairs}
-
-is-so : {b : Bool} → b ≡ true → T b
-is-so e = subst T (sym e) tt
-
--- Every place of a search that passed is good.
-module _ (good : ℕ → ℕ → Bool) (number n : ℕ) where
-  row-passed : (i j m : ℕ) → askRow good number i j m ≡ pass → (k : ℕ) → j ≤ k → k < j + m → good i k ≡ true
-  unfolding askRow
-  row-passed i j zero e k l h = absurd (omega arith)
-  row-passed i j (suc m) e k l h =
-      let p = both (ask (good i j) number (suc i) (suc j)) (askRow good number i (suc j) m) e in
-      elim (ℕ-discrete k j) [
-        | yes q ↦ rw q (asked-yes (good i j) number (suc i) (suc j) (p .0))
-        | no d ↦ row-passed i (suc j) m (p .1) k (omega arith) (omega arith)
-      ]
-
-  rows-passed : (i m : ℕ) → askRows good number n i m ≡ pass → (k j : ℕ) → i ≤ k → k < i + m → j < n → good k j ≡ true
-  unfolding askRows
-  rows-passed i zero e k j l h b = absurd (omega arith)
-  rows-passed i (suc m) e k j l h b =
-      let p = both (askRow good number i 0 n) (askRows good number n (suc i) m) e in
-      elim (ℕ-discrete k i) [
-        | yes q ↦ rw q (row-passed i 0 n (p .0) j zero-le (omega arith))
-        | no d ↦ rows-passed (suc i) m (p .1) k j (omega arith) (omega arith) b
-      ]
-
-  places-passed : askRows good number n 0 n ≡ pass → (i j : ℕ) → i < n → j < n → T (good i j)
-  places-passed e i j h b = is-so (rows-passed 0 n e i j zero-le (omega arith) b)
-
-stages-passed : (good : ℕ → Bool) (number i m : ℕ) → askStages good number i m ≡ pass → (k : ℕ) → i ≤ k → k < i + m → good k ≡ true
-unfolding askStages
-stages-passed good number i zero e k l h = absurd (omega arith)
-stages-passed good number i (suc m) e k l h =
-    let p = both (ask (good i) number (suc i) 0) (askStages good number (suc i) m) e in
-    elim (ℕ-discrete k i) [
-      | yes q ↦ rw q (asked-yes (good i) number (suc i) 0 (p .0))
-      | no d ↦ stages-passed good number (suc i) m (p .1) k (omega arith) (omega arith)
-    ]
 
 module _ (reading n : ℕ) (sheet : List Float) where
   reading-passed : question1 reading ≡ pass → (reading ≡ 1) ⊎ (reading ≡ 2)
@@ -67,19 +30,19 @@ module _ (reading n : ℕ) (sheet : List Float) where
 
   finite-passed : question6 n sheet ≡ pass → (i j : ℕ) → i < n → j < n → T (finite (place n sheet i j))
   unfolding question6
-  finite-passed e = places-passed (λ i j. finite (place n sheet i j)) 6 n e
+  finite-passed e = rows-yes (λ i j. finite (place n sheet i j)) 6 n e
 
   signs-passed : question7 reading n sheet ≡ pass → (i j : ℕ) → i < n → j < n → T (rightSign reading n sheet i j)
   unfolding question7
-  signs-passed e = places-passed (rightSign reading n sheet) 7 n e
+  signs-passed e = rows-yes (rightSign reading n sheet) 7 n e
 
   sizes-passed : question8 n sheet ≡ pass → (i j : ℕ) → i < n → j < n → T (largeEnough (place n sheet i j))
   unfolding question8
-  sizes-passed e = places-passed (λ i j. largeEnough (place n sheet i j)) 8 n e
+  sizes-passed e = rows-yes (λ i j. largeEnough (place n sheet i j)) 8 n e
 
   out-passed : question9 reading n sheet ≡ pass → reading ≡ 1 → (i : ℕ) → i < n → T (getsOut n sheet i)
   unfolding question9
-  out-passed e r i h = is-so (stages-passed (getsOut n sheet) 9 0 n (rw (eq-eqb reading 1 r) at e) i zero-le (omega arith))
+  out-passed e r i h = stages-yes (getsOut n sheet) 9 n (rw (eq-eqb reading 1 r) at e) i h
 
   -- The questions of both calls, with the one of its own between them.
   input-passed : (own : Asked) → (question1 reading then question2 n then question3 n (length sheet) then own then numberQuestions reading n sheet) ≡ pass → Input reading n sheet × (own ≡ pass)

@@ -3,3 +3,4 @@ pub mod LeavingRates
 pub mod Sums
 pub mod Compact
 pub mod Margins
+pub mod Questions
