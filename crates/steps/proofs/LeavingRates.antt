@@ -11,15 +11,17 @@ use Rattle.steps.proofs.Tables.{stored-at, storedTable-at}
 
 module _ (r : ℕ) (start : System) where
   -- The systems as the stages begin.
+  pub begun-at : (k : ℕ) → k < r → downward r start k ≡ begun r start k
+  unfolding downward
+  begun-at k h = stored-at start r (begun r start) k h
+
   pub at-start : 0 < r → downward r start 0 ≡ start
-  unfolding downward begun
-  at-start h = stored-at start r (begun r start) 0 h
+  unfolding begun
+  at-start h = begun-at 0 h
 
   pub at-next : (k : ℕ) → suc k < r → downward r start (suc k) ≡ eliminate r (downward r start k) k
-  unfolding downward begun
-  at-next k h =
-      stored-at start r (begun r start) (suc k) h
-      ∙ ap (λ a. eliminate r a k) (sym (stored-at start r (begun r start) k (omega arith)))
+  unfolding begun
+  at-next k h = begun-at (suc k) h ∙ ap (λ a. eliminate r a k) (sym (begun-at k (omega arith)))
 
 module _ (r : ℕ) (at : ℕ → System) where
   pub pivot-is : (k : ℕ) → p r at k ≡ sum (at k .s k) (at k .t k) (suc k) (r - suc k)

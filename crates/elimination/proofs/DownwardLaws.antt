@@ -1,0 +1,46 @@
+-- The laws behind the steps on sizes and leaving rates, as table operations.
+use mathlib.Core.Path.{_≡_, refl, sym, ap, ap₂, _∙_}
+use Prim.Native.Nat.{ℕ, zero, suc, _+_, _-_, _≤_, _<_}
+use native.Mathlib.Nat.{le-refl}
+use native.Mathlib.Numerals.{add-one}
+use native.Mathlib.Omega.{arith}
+use mathlib.Core.List.{List}
+use lib.Ieee.{Float}
+use Rattle.definitions.specs.Numbers.{_⊕_, _⊗_, _⊘_}
+use Rattle.elimination.specs.Places.{table32, Holds}
+use Rattle.elimination.specs.Operators.{replace, between, put, span}
+use Rattle.elimination.specs.Steps.{sumWith, overPivot, IsStage, eliminatedRow, eliminatedRows, stageDone}
+use Rattle.elimination.proofs.Operators.{between-same, put-replaced}
+
+-- Row i at stage k: the sums along the row, then the multiplier, then the leaving rate.
+pub row-eliminated : (r k i : ℕ) (s p : Float) (f : ℕ → ℕ → Float) {m e : Float} {xs ys zs : List Float}
+    → Holds xs (span i (k + 1) r (sumWith m (f i) (f k)) f)
+    → Holds ys (put i k m (table32 xs))
+    → Holds zs (put i i e (table32 ys))
+    → m ≡ f i k ⊘ p
+    → e ≡ f i i ⊕ m ⊗ s
+    → Holds zs (replace i (eliminatedRow r k s p i (f i) (f k)) f)
+unfolding span eliminatedRow
+row-eliminated r k i s p f {m} {e} h₁ h₂ h₃ a b =
+    record {
+      long = h₃ .long;
+      is =
+          h₃ .is
+          ∙ rw (h₂ .is, h₁ .is, put-replaced i k m (between (k + 1) r (sumWith m (f i) (f k)) (f i)) f, put-replaced i i e (replace k m (between (k + 1) r (sumWith m (f i) (f k)) (f i))) f, add-one k, b, a);
+    }
+
+-- Stage k: its rows, then its pivot.
+pub stage-eliminated : (r k : ℕ) (f : ℕ → ℕ → Float) {s p : Float} {xs ys : List Float}
+    → IsStage r k f s p
+    → Holds xs (eliminatedRows r k s p r f)
+    → Holds ys (put k k p (table32 xs))
+    → Holds ys (stageDone r k f)
+unfolding stageDone
+stage-eliminated r k f e h₁ h₂ = record { long = h₂ .long; is = h₂ .is ∙ rw (h₁ .is, e .sum, e .pivots) }
+
+-- The upward multipliers of row i look at that row and those below it.
+pub upward-same : (r i : ℕ) (f g : ℕ → ℕ → Float) → ((a : ℕ) → i ≤ a → f a ≡ g a) → between (suc i) r (overPivot f i) (f i) ≡ between (suc i) r (overPivot g i) (g i)
+unfolding overPivot
+upward-same r i f g e =
+    between-same (suc i) r (overPivot f i) (overPivot g i) (f i) (λ k l h. ap₂ (λ (x y : ℕ → Float). x k ⊘ y k) (e i (le-refl i)) (e k (omega arith)))
+    ∙ ap (λ (x : ℕ → Float). between (suc i) r (overPivot g i) x) (e i (le-refl i))

@@ -1,0 +1,52 @@
+-- One step of each kind, from numbers that are known: x + m·y, and x / p.
+use mathlib.Core.Path.{_≡_, refl, _∙_}
+use Prim.Native.Nat.{ℕ}
+use mathlib.Core.Bool.{Bool}
+use lib.Ieee.{Float}
+use Rattle.definitions.specs.Numbers.{_⊕_, _⊗_, _⊘_, divInRange, addProductInRange}
+use Rattle.elimination.specs.Operators.{between}
+use Rattle.elimination.specs.Steps.{sumWith, sumWithInRange, over, overInRange, overPivot, overPivotInRange}
+
+module _ {x x' m m' y y' : Float} (a : x ≡ x') (e : m ≡ m') (b : y ≡ y') where
+  pub step-same : x ⊕ m ⊗ y ≡ x' ⊕ m' ⊗ y'
+  step-same = rw (a, e, b)
+
+  pub step-test-same : addProductInRange x m y ≡ addProductInRange x' m' y'
+  step-test-same = rw (a, e, b)
+
+-- At column j of a row.
+module _ (j : ℕ) (own : ℕ → Float) {x : Float} (a : x ≡ own j) where
+  module _ (m : Float) (other : ℕ → Float) {y : Float} (b : y ≡ other j) where
+    pub sum-with : x ⊕ m ⊗ y ≡ sumWith m own other j
+    unfolding sumWith
+    sum-with = step-same a refl b
+
+    pub sum-with-test : {ok : Bool} → ok ≡ addProductInRange x m y → ok ≡ sumWithInRange m own other j
+    unfolding sumWithInRange
+    sum-with-test e = e ∙ step-test-same a refl b
+
+  module _ (p : Float) where
+    pub over-is : x ⊘ p ≡ over p own j
+    unfolding over
+    over-is = rw a
+
+    pub over-test : {ok : Bool} → ok ≡ divInRange x p → ok ≡ overInRange p own j
+    unfolding overInRange
+    over-test e = e ∙ rw a
+
+-- At place (i, k) of a table.
+module _ (f : ℕ → ℕ → Float) (i k : ℕ) {x p : Float} (a : x ≡ f i k) (b : p ≡ f k k) where
+  pub over-pivot : x ⊘ p ≡ overPivot f i k
+  unfolding overPivot
+  over-pivot = rw (a, b)
+
+  pub over-pivot-test : {ok : Bool} → ok ≡ divInRange x p → ok ≡ overPivotInRange f k i
+  unfolding overPivotInRange
+  over-pivot-test e = e ∙ rw (a, b)
+
+-- Whole rows.
+pub row-sum-same : (c : ℕ) {m m' : Float} {own own' other other' : ℕ → Float} → m ≡ m' → own ≡ own' → other ≡ other' → between 0 c (sumWith m own other) own ≡ between 0 c (sumWith m' own' other') own'
+row-sum-same c e a b = rw (e, a, b)
+
+pub row-over-same : (c : ℕ) {p p' : Float} {own own' : ℕ → Float} → p ≡ p' → own ≡ own' → between 0 c (over p own) own ≡ between 0 c (over p' own') own'
+row-over-same c e a = rw (e, a)

@@ -1,0 +1,60 @@
+-- `elimination::columns::identity` meets its contract: at row i the rows before it are done. Assumes nothing.
+use mathlib.Core.Path.{_≡_, refl, ap}
+use Prim.Native.Nat.{_≤_, _-_}
+use native.Mathlib.Nat.{le-refl}
+use native.Mathlib.Omega.{arith}
+use lib.Ieee.{ofBits}
+use borrow.Author.Needs.{needs}
+use Rattle.elimination.specs.Places.{table32}
+use Rattle.elimination.specs.Operators.{between}
+use Rattle.elimination.specs.Steps.{identityRow, identityRows}
+use Rattle.elimination.proofs.ColumnLaws.{row-of-identity}
+use Rattle.elimination.proofs.Loops.{Down, down-begins, down-due, down-turns, down-ends}
+use Rattle.elimination.proofs.columns.identity.Statement.{statement}
+use Rattle.elimination.proofs.columns.identity.Tie as tie
+
+abbrev Inv-loop : tie.InvT-loop
+Inv-loop r b₀ i₀ b i = (i ≤ r) × Down 0 (λ l. between 0 r (identityRow l) (table32 b₀ l)) (table32 b₀) b i
+
+abbrev μ-loop : tie.MeasureT-loop
+μ-loop r b₀ i₀ b i = r - i
+
+loop-holds : tie.Need-loop-holds Inv-loop μ-loop
+loop-holds c = (search needs, down-begins refl (c .pre .1))
+
+clear-requires : tie.Need-clear-requires Inv-loop μ-loop
+clear-requires c κs = search needs
+
+put-requires : tie.Need-put-requires Inv-loop μ-loop
+put-requires c κs = search needs
+
+add-i : tie.Need-add-i Inv-loop μ-loop
+add-i c = search needs
+
+loop-less : tie.Need-loop-less Inv-loop μ-loop
+loop-less c = search needs
+
+loop-again : tie.Need-loop-again Inv-loop μ-loop
+unfolding ofBits
+loop-again c =
+    let l = c .before .before .before .before .before in
+    let h = l .loop .inv .1 in
+    (omega arith, down-turns h (row-of-identity (l .loop .i) (l .before .args .r) (table32 (l .loop .b)) (omega arith) (c .before .before .clear .ensures) (c .put .ensures)) (ap (between 0 (l .before .args .r) (identityRow (l .loop .i))) (down-due h (l .loop .i) (le-refl (l .loop .i)))))
+
+returns : tie.Need-returns Inv-loop μ-loop
+unfolding identityRows
+returns c = down-ends (c .before .loop .inv .1) (omega arith) (omega arith)
+
+pub identity-spec : {M : Type 1} → statement M
+identity-spec =
+    tie.close
+    (tie.spec
+    Inv-loop
+    μ-loop
+    loop-holds
+    clear-requires
+    put-requires
+    add-i
+    loop-less
+    loop-again
+    returns)

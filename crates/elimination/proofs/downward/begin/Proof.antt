@@ -1,0 +1,57 @@
+-- `elimination::downward::begin` meets its contract: at column j the sizes before it are added. Assumes nothing.
+use mathlib.Core.Path.{_≡_}
+use Prim.Native.Nat.{_≤_, _-_, suc}
+use native.Mathlib.Numerals.{add-one}
+use native.Mathlib.Omega.{arith}
+use borrow.Author.Needs.{needs}
+use Rattle.definitions.specs.LeavingRates.{pivot}
+use Rattle.elimination.specs.Places.{table32}
+use Rattle.elimination.proofs.Flags.{Summed, summed-begins, summed-turns, summed-ends}
+use Rattle.elimination.proofs.downward.begin.Statement.{statement}
+use Rattle.elimination.proofs.downward.begin.Tie as tie
+
+abbrev Inv-loop : tie.InvT-loop
+Inv-loop r k t s p₀ j₀ p j = (j ≤ r) × Summed (table32 t k k) (table32 t k) (suc k) j p
+
+abbrev μ-loop : tie.MeasureT-loop
+μ-loop r k t s p₀ j₀ p j = r - j
+
+get-requires : tie.Need-get-requires Inv-loop μ-loop
+get-requires c κs = search needs
+
+add-j : tie.Need-add-j Inv-loop μ-loop
+add-j c = search needs
+
+loop-holds : tie.Need-loop-holds Inv-loop μ-loop
+loop-holds c = (search needs, summed-begins (add-one (c .before .args .k)) (c .get .ensures))
+
+get-requires-2 : tie.Need-get-requires-2 Inv-loop μ-loop
+get-requires-2 c κs = search needs
+
+add-j-2 : tie.Need-add-j-2 Inv-loop μ-loop
+add-j-2 c = search needs
+
+loop-less : tie.Need-loop-less Inv-loop μ-loop
+loop-less c = search needs
+
+loop-again : tie.Need-loop-again Inv-loop μ-loop
+loop-again c = (omega arith, summed-turns (c .before .before .loop .inv .1) (c .get2 .ensures))
+
+returns : tie.Need-returns Inv-loop μ-loop
+unfolding pivot
+returns c = record { sum = c .before .before .get .ensures; pivots = summed-ends (c .before .loop .inv .1) (omega arith) (omega arith) }
+
+pub begin-spec : {M : Type 1} → statement M
+begin-spec =
+    tie.close
+    (tie.spec
+    Inv-loop
+    μ-loop
+    get-requires
+    add-j
+    loop-holds
+    get-requires-2
+    add-j-2
+    loop-less
+    loop-again
+    returns)

@@ -1,0 +1,45 @@
+-- `elimination::downward::eliminate_row` meets its contract. Assumes nothing.
+use borrow.Author.Needs.{needs}
+use Rattle.elimination.specs.Places.{table32}
+use Rattle.elimination.proofs.DownwardLaws.{row-eliminated}
+use Rattle.elimination.proofs.downward.eliminate_row.Statement.{statement}
+use Rattle.elimination.proofs.downward.eliminate_row.Tie as tie
+
+get-requires : tie.Need-get-requires
+get-requires c κs = search needs
+
+get-requires-2 : tie.Need-get-requires-2
+get-requires-2 c κs = search needs
+
+add-add-multiple : tie.Need-add-add-multiple
+add-add-multiple c = search needs
+
+add-multiple-requires : tie.Need-add-multiple-requires
+add-multiple-requires c κs = search needs
+
+put-requires : tie.Need-put-requires
+put-requires c κs = search needs
+
+put-requires-2 : tie.Need-put-requires-2
+put-requires-2 c κs = search needs
+
+returns : tie.Need-returns
+returns c =
+    let a = c .before .before .before .before in
+    let g = a .before .before .before in
+    let s = g .before .before .before .before .before in
+    row-eliminated (s .args .r) (s .args .k) (s .args .i) (s .args .stage .s) (s .args .stage .p) (table32 (s .args .t .now)) (a .add-multiple .ensures) (c .before .before .put .ensures) (c .put2 .ensures)
+    (rw (g .before .before .before .get .ensures))
+    (rw (g .get2 .ensures))
+
+pub eliminate-row-spec : {M : Type 1} → statement M
+eliminate-row-spec =
+    tie.close
+    (tie.spec
+    get-requires
+    get-requires-2
+    add-add-multiple
+    add-multiple-requires
+    put-requires
+    put-requires-2
+    returns)

@@ -1,0 +1,61 @@
+-- `elimination::downward::eliminate_rows` meets its contract: at row i the rows from k + 1 before it are done. Assumes nothing.
+use mathlib.Core.Path.{ap₂}
+use Prim.Native.Nat.{_≤_, _-_, suc}
+use native.Mathlib.Nat.{le-refl}
+use native.Mathlib.Numerals.{add-one}
+use native.Mathlib.Omega.{arith}
+use borrow.Author.Needs.{needs}
+use Rattle.elimination.specs.Places.{table32}
+use Rattle.elimination.specs.Steps.{eliminatedRow, eliminatedRows}
+use Rattle.elimination.proofs.Loops.{Down, down-begins, down-due, down-else, down-turns, down-ends}
+use Rattle.elimination.proofs.downward.eliminate_rows.Statement.{statement}
+use Rattle.elimination.proofs.downward.eliminate_rows.Tie as tie
+
+abbrev Inv-loop : tie.InvT-loop
+Inv-loop r k stage t₀ i₀ t i = (i ≤ r) × Down (suc k) (λ l. eliminatedRow r k (stage .s) (stage .p) l (table32 t₀ l) (table32 t₀ k)) (table32 t₀) t i
+
+abbrev μ-loop : tie.MeasureT-loop
+μ-loop r k stage t₀ i₀ t i = r - i
+
+add-i : tie.Need-add-i Inv-loop μ-loop
+add-i c = search needs
+
+loop-holds : tie.Need-loop-holds Inv-loop μ-loop
+loop-holds c = (search needs, down-begins (add-one (c .args .k)) (c .pre .2))
+
+eliminate-row-requires : tie.Need-eliminate-row-requires Inv-loop μ-loop
+eliminate-row-requires c κs =
+    let l = c .before .before in
+    let h = l .loop .inv .1 in
+    (h .from, c .before .loop-test .taken, l .before .pre .1, h .holds .long)
+
+add-i-2 : tie.Need-add-i-2 Inv-loop μ-loop
+add-i-2 c = search needs
+
+loop-less : tie.Need-loop-less Inv-loop μ-loop
+loop-less c = search needs
+
+loop-again : tie.Need-loop-again Inv-loop μ-loop
+loop-again c =
+    let l = c .before .before .before in
+    let s = l .before .args in
+    let h = l .loop .inv .1 in
+    (omega arith, down-turns h (c .eliminate-row .ensures) (ap₂ (λ a b. eliminatedRow (s .r) (s .k) (s .stage .s) (s .stage .p) (l .loop .i) a b) (down-due h (l .loop .i) (le-refl (l .loop .i))) (down-else h (s .k) (λ l m. omega arith))))
+
+returns : tie.Need-returns Inv-loop μ-loop
+unfolding eliminatedRows
+returns c = down-ends (c .before .loop .inv .1) (omega arith) (omega arith)
+
+pub eliminate-rows-spec : {M : Type 1} → statement M
+eliminate-rows-spec =
+    tie.close
+    (tie.spec
+    Inv-loop
+    μ-loop
+    add-i
+    loop-holds
+    eliminate-row-requires
+    add-i-2
+    loop-less
+    loop-again
+    returns)

@@ -1,0 +1,61 @@
+-- `elimination::row::add_multiple` meets its contract: at column j the columns before it are done. Assumes nothing.
+use mathlib.Core.Path.{refl, _∙_}
+use Prim.Native.Nat.{_≤_, _-_}
+use native.Mathlib.Omega.{arith}
+use borrow.Author.Needs.{needs}
+use Rattle.elimination.specs.Places.{table32}
+use Rattle.elimination.specs.Steps.{sumWith}
+use Rattle.elimination.proofs.Loops.{Along, along-begins, along-due, along-else, along-turns, along-ends}
+use Rattle.elimination.proofs.RowSteps.{sum-with}
+use Rattle.elimination.proofs.row.add_multiple.Statement.{statement}
+use Rattle.elimination.proofs.row.add_multiple.Tie as tie
+
+abbrev Inv-loop : tie.InvT-loop
+Inv-loop i k m lo hi a₀ j₀ a j = (j ≤ hi) × Along i lo (sumWith m (table32 a₀ i) (table32 a₀ k)) (table32 a₀) a j
+
+abbrev μ-loop : tie.MeasureT-loop
+μ-loop i k m lo hi a₀ j₀ a j = hi - j
+
+loop-holds : tie.Need-loop-holds Inv-loop μ-loop
+loop-holds c = (search needs, along-begins refl (c .pre .5))
+
+get-requires : tie.Need-get-requires Inv-loop μ-loop
+get-requires c κs = search needs
+
+get-requires-2 : tie.Need-get-requires-2 Inv-loop μ-loop
+get-requires-2 c κs = search needs
+
+put-requires : tie.Need-put-requires Inv-loop μ-loop
+put-requires c κs = search needs
+
+add-j : tie.Need-add-j Inv-loop μ-loop
+add-j c = search needs
+
+loop-less : tie.Need-loop-less Inv-loop μ-loop
+loop-less c = search needs
+
+loop-again : tie.Need-loop-again Inv-loop μ-loop
+loop-again c =
+    let l = c .before .before .before .before .before .before .before in
+    let s = l .before .args in
+    let f = table32 (s .a .now) in
+    let h = l .loop .inv .1 in
+    (omega arith, along-turns h (c .put .ensures) (sum-with (l .loop .j) (f (s .i)) (c .before .before .before .before .get .ensures ∙ along-due h) (s .m) (f (s .k)) (c .before .before .get2 .ensures ∙ along-else h (s .k) (l .loop .j) (l .before .pre .2))))
+
+returns : tie.Need-returns Inv-loop μ-loop
+returns c = along-ends (c .before .loop .inv .1) (omega arith) (omega arith)
+
+pub add-multiple-spec : {M : Type 1} → statement M
+add-multiple-spec =
+    tie.close
+    (tie.spec
+    Inv-loop
+    μ-loop
+    loop-holds
+    get-requires
+    get-requires-2
+    put-requires
+    add-j
+    loop-less
+    loop-again
+    returns)

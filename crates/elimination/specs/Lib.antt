@@ -1,0 +1,4 @@
+pub mod Places
+pub mod Operators
+pub mod Steps
+pub mod Contracts

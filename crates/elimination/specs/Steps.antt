@@ -1,0 +1,100 @@
+-- What the functions do to a working table f: the steps of `definitions`, with the loops' bounds as parameters.
+use mathlib.Core.Path.{_≡_}
+use Prim.Native.Nat.{ℕ, zero, suc, _+_, _-_}
+use mathlib.Core.Bool.{Bool, _&&_, cond}
+use lib.Dec.{eqb}
+use lib.Ieee.{Float, add, mul, div}
+use Rattle.definitions.specs.Numbers.{_⊕_, _⊗_, _⊘_, 0·0, 1·0, divInRange, addProductInRange, all}
+use Rattle.definitions.specs.LeavingRates.{pivot, stageInRange}
+use Rattle.elimination.specs.Places.{systemIn, atStage}
+use Rattle.elimination.specs.Operators.{replace, between, put, span}
+
+-- A row with m times another row.
+unfoldable pub sumWith : Float → (ℕ → Float) → (ℕ → Float) → ℕ → Float
+sumWith m own other j = own j ⊕ m ⊗ other j
+
+unfoldable pub sumWithInRange : Float → (ℕ → Float) → (ℕ → Float) → ℕ → Bool
+sumWithInRange m own other j = addProductInRange (own j) m (other j)
+
+-- A row over a number p.
+unfoldable pub over : Float → (ℕ → Float) → ℕ → Float
+over p own j = own j ⊘ p
+
+unfoldable pub overInRange : Float → (ℕ → Float) → ℕ → Bool
+overInRange p own j = divInRange (own j) p
+
+-- The running sum s and the pivot p of stage k of a table f.
+pub record IsStage (r k : ℕ) (f : ℕ → ℕ → Float) (s p : Float) : Type 0 where
+  pub sum : s ≡ f k k
+  pub pivots : p ≡ pivot r (systemIn f) k
+
+-- Row i at stage k, whose running sum is s and whose pivot is p: the new leaving rate on the diagonal, the multiplier in column k.
+unfoldable pub eliminatedRow : ℕ → ℕ → Float → Float → ℕ → (ℕ → Float) → (ℕ → Float) → ℕ → Float
+eliminatedRow r k s p i own other =
+    let m = own k ⊘ p in
+    replace i (own i ⊕ m ⊗ s) (replace k m (between (suc k) r (sumWith m own other) own))
+
+-- The rows after k and before hi.
+unfoldable pub eliminatedRows : ℕ → ℕ → Float → Float → ℕ → (ℕ → ℕ → Float) → ℕ → ℕ → Float
+eliminatedRows r k s p hi f = between (suc k) hi (λ i. eliminatedRow r k s p i (f i) (f k)) f
+
+-- Stage k, which leaves its pivot on the diagonal; and the stages before k.
+unfoldable pub stageDone : ℕ → ℕ → (ℕ → ℕ → Float) → ℕ → ℕ → Float
+stageDone r k f = let p = pivot r (systemIn f) k in put k k p (eliminatedRows r k (f k k) p r f)
+
+unfoldable pub stagesDone : ℕ → (ℕ → ℕ → Float) → ℕ → ℕ → ℕ → Float
+stagesDone r f zero = f
+stagesDone r f (suc k) = stageDone r k (stagesDone r f k)
+
+unfoldable pub stagesInRange : ℕ → (ℕ → ℕ → Float) → ℕ → Bool
+stagesInRange r f k = all (λ l. stageInRange r (atStage (stagesDone r f l)) l) 0 k
+
+-- The upward multipliers, sizes after the diagonal over the pivots of their columns, in the rows before hi.
+unfoldable pub overPivot : (ℕ → ℕ → Float) → ℕ → ℕ → Float
+overPivot f i k = f i k ⊘ f k k
+
+unfoldable pub upwardRows : ℕ → ℕ → (ℕ → ℕ → Float) → ℕ → ℕ → Float
+upwardRows r hi f = between 0 hi (λ i. between (suc i) r (overPivot f i) (f i)) f
+
+unfoldable pub overPivotInRange : (ℕ → ℕ → Float) → ℕ → ℕ → Bool
+overPivotInRange f k i = divInRange (f i k) (f k k)
+
+unfoldable pub multipliersInRange : ℕ → (ℕ → ℕ → Float) → Bool
+multipliersInRange r f = all (λ k. all (overPivotInRange f k) 0 k) 0 r
+
+-- The rows before hi of the identity of r × r.
+unfoldable pub identityRow : ℕ → ℕ → Float
+identityRow i j = cond (eqb i j) 1·0 0·0
+
+unfoldable pub identityRows : ℕ → ℕ → (ℕ → ℕ → Float) → ℕ → ℕ → Float
+identityRows r hi f = between 0 hi (λ i. between 0 r (identityRow i) (f i)) f
+
+-- Stage k in the first c columns of b: row k added to the rows from lo up to hi, with each row's multiplier g_ik.
+unfoldable pub rowsAdded : ℕ → ℕ → ℕ → ℕ → (ℕ → ℕ → Float) → (ℕ → ℕ → Float) → ℕ → ℕ → Float
+rowsAdded k lo hi c g f = between lo hi (λ i. between 0 c (sumWith (g i k) (f i) (f k)) (f i)) f
+
+unfoldable pub rowsAddedInRange : ℕ → ℕ → ℕ → ℕ → (ℕ → ℕ → Float) → (ℕ → ℕ → Float) → Bool
+rowsAddedInRange k lo hi c g f = all (λ i. all (sumWithInRange (g i k) (f i) (f k)) 0 c) lo (hi - lo)
+
+-- The downward stages before k,
+unfoldable pub downDone : ℕ → (ℕ → ℕ → Float) → (ℕ → ℕ → Float) → ℕ → ℕ → ℕ → Float
+downDone r g f zero = f
+downDone r g f (suc k) = rowsAdded k (suc k) r (suc k) g (downDone r g f k)
+
+unfoldable pub downInRange : ℕ → (ℕ → ℕ → Float) → (ℕ → ℕ → Float) → ℕ → Bool
+downInRange r g f k = all (λ l. rowsAddedInRange l (suc l) r (suc l) g (downDone r g f l)) 0 k
+
+-- the first q upward stages,
+unfoldable pub upDone : ℕ → (ℕ → ℕ → Float) → (ℕ → ℕ → Float) → ℕ → ℕ → ℕ → Float
+upDone r g f zero = f
+upDone r g f (suc q) = let k = r - suc q in rowsAdded k 0 k r g (upDone r g f q)
+
+unfoldable pub upInRange : ℕ → (ℕ → ℕ → Float) → (ℕ → ℕ → Float) → ℕ → Bool
+upInRange r g f q = all (λ l. let k = r - suc l in rowsAddedInRange k 0 k r g (upDone r g f l)) 0 q
+
+-- and the last division, in the rows before hi.
+unfoldable pub dividedRows : ℕ → ℕ → (ℕ → ℕ → Float) → (ℕ → ℕ → Float) → ℕ → ℕ → Float
+dividedRows r hi g f = between 0 hi (λ i. between 0 r (over (g i i) (f i)) (f i)) f
+
+unfoldable pub quotientsInRange : ℕ → (ℕ → ℕ → Float) → (ℕ → ℕ → Float) → Bool
+quotientsInRange r g f = all (λ i. all (overInRange (g i i) (f i)) 0 r) 0 r

@@ -1,0 +1,107 @@
+// The steps that serve every column of b, on the table t of sizes and leaving rates: s_i stands at
+// place (i, i) until stage i is done, and p_i afterwards; the multiplier of row i at stage k takes the
+// place (i, k), which no later step reads as a size.
+use crate::Stage;
+use crate::range;
+use crate::row;
+ghost use mathlib.Core.Path.{_≡_};
+ghost use Prim.Native.Nat.{suc, _≤_, _<_};
+ghost use lib.ListN.{length};
+ghost use Rattle.definitions.specs.LeavingRates.{stageInRange};
+ghost use Rattle.elimination.specs.Places.{table32, atStage, Holds, Gives};
+ghost use Rattle.elimination.specs.Operators.{replace, span};
+ghost use Rattle.elimination.specs.Contracts.{Shared};
+ghost use Rattle.elimination.specs.Steps.{IsStage, eliminatedRow, eliminatedRows, stageDone, stagesDone, stagesInRange, overPivot, upwardRows};
+
+// Stage k's running sum and pivot: s_k, and s_k with the sizes after the diagonal added, rising.
+pub fn begin(r: usize, k: usize, t: &[f64; 1024]) -> Stage
+    requires { ⌜ (k < r) × (r ≤ 32) × (length (now t) ≡ 1024) ⌝ }
+    ensures { λ stage. ⌜ IsStage r k (table32 (now (t .entry))) (stage .s) (stage .p) ⌝ }
+{
+    let s = row::get(k, k, t);
+    let mut p = s;
+    for j in k + 1..r {
+        let x = row::get(k, j, t);
+        p = p + x;
+    }
+    Stage { s, p }
+}
+
+// Row i at stage k. The loop over the row runs over the diagonal too, so the new s_i is made before
+// and stored after it.
+pub fn eliminate_row(r: usize, k: usize, i: usize, stage: Stage, t: &mut [f64; 1024])
+    requires { ⌜ (k < i) × (i < r) × (r ≤ 32) × (length (now t) ≡ 1024) ⌝ }
+    ensures { λ _. ⌜ Holds (now (t .exit)) (replace i (eliminatedRow r k (stage .s) (stage .p) i (table32 (now (t .entry)) i) (table32 (now (t .entry)) k)) (table32 (now (t .entry)))) ⌝ }
+{
+    let m = row::get(i, k, t) / stage.p;
+    let s = row::get(i, i, t) + m * stage.s;
+    row::add_multiple(i, k, m, k + 1, r, t);
+    row::put(i, k, m, t);
+    row::put(i, i, s, t);
+}
+
+pub fn eliminate_rows(r: usize, k: usize, stage: Stage, t: &mut [f64; 1024])
+    requires { ⌜ (k < r) × (r ≤ 32) × (length (now t) ≡ 1024) ⌝ }
+    ensures { λ _. ⌜ Holds (now (t .exit)) (eliminatedRows r k (stage .s) (stage .p) r (table32 (now (t .entry)))) ⌝ }
+{
+    for i in k + 1..r {
+        eliminate_row(r, k, i, stage, t);
+    }
+}
+
+// Stage k, and whether its steps are in range.
+pub fn eliminate(r: usize, k: usize, t: &mut [f64; 1024]) -> bool
+    requires { ⌜ (k < r) × (r ≤ 32) × (length (now t) ≡ 1024) ⌝ }
+    ensures { λ ok. ⌜ Gives ok (stageInRange r (atStage (table32 (now (t .entry)))) k) (now (t .exit)) (stageDone r k (table32 (now (t .entry)))) ⌝ }
+{
+    let stage = begin(r, k, t);
+    let ok = range::stage_in_range(r, k, stage, t);
+    eliminate_rows(r, k, stage, t);
+    row::put(k, k, stage.p, t);
+    ok
+}
+
+// Every stage, and whether their steps are in range.
+pub fn downward(r: usize, t: &mut [f64; 1024]) -> bool
+    requires { ⌜ (r ≤ 32) × (length (now t) ≡ 1024) ⌝ }
+    ensures { λ ok. ⌜ Gives ok (stagesInRange r (table32 (now (t .entry))) r) (now (t .exit)) (stagesDone r (table32 (now (t .entry))) r) ⌝ }
+{
+    let mut ok = true;
+    for k in 0..r {
+        let stage = eliminate(r, k, t);
+        ok = ok & stage;
+    }
+    ok
+}
+
+// The upward multipliers of row i: its sizes after the diagonal over the pivots of their columns.
+pub fn upward_row(r: usize, i: usize, t: &mut [f64; 1024])
+    requires { ⌜ (i < r) × (r ≤ 32) × (length (now t) ≡ 1024) ⌝ }
+    ensures { λ _. ⌜ Holds (now (t .exit)) (span i (suc i) r (overPivot (table32 (now (t .entry))) i) (table32 (now (t .entry)))) ⌝ }
+{
+    for k in i + 1..r {
+        let x = row::get(i, k, t);
+        let p = row::get(k, k, t);
+        row::put(i, k, x / p, t);
+    }
+}
+
+pub fn upward_rows(r: usize, t: &mut [f64; 1024])
+    requires { ⌜ (r ≤ 32) × (length (now t) ≡ 1024) ⌝ }
+    ensures { λ _. ⌜ Holds (now (t .exit)) (upwardRows r r (table32 (now (t .entry)))) ⌝ }
+{
+    for i in 0..r {
+        upward_row(r, i, t);
+    }
+}
+
+// All steps that serve every column, and whether they are in range.
+pub fn shared(r: usize, t: &mut [f64; 1024]) -> bool
+    requires { ⌜ (r ≤ 32) × (length (now t) ≡ 1024) ⌝ }
+    ensures { λ ok. ⌜ Shared r (now (t .entry)) (now (t .exit)) ok ⌝ }
+{
+    let down = downward(r, t);
+    let up = range::multipliers_in_range(r, t);
+    upward_rows(r, t);
+    down & up
+}

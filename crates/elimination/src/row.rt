@@ -1,0 +1,57 @@
+// Places and rows of a working table: 1,024 numbers, 32 to a row.
+ghost use mathlib.Core.Path.{_≡_};
+ghost use Prim.Native.Nat.{_≤_, _<_};
+ghost use lib.ListN.{length};
+ghost use Rattle.elimination.specs.Places.{table32, Holds};
+ghost use Rattle.elimination.specs.Operators.{put, span};
+ghost use Rattle.definitions.specs.Numbers.{0·0};
+ghost use Rattle.elimination.specs.Steps.{sumWith, over};
+
+// The number at place (i, j).
+pub fn get(i: usize, j: usize, a: &[f64; 1024]) -> f64
+    requires { ⌜ (i < 32) × (j < 32) × (length (now a) ≡ 1024) ⌝ }
+    ensures { λ r. ⌜ r ≡ table32 (now (a .entry)) i j ⌝ }
+{
+    a[i * 32 + j]
+}
+
+// Place (i, j) becomes x.
+pub fn put(i: usize, j: usize, x: f64, a: &mut [f64; 1024])
+    requires { ⌜ (i < 32) × (j < 32) × (length (now a) ≡ 1024) ⌝ }
+    ensures { λ _. ⌜ Holds (now (a .exit)) (put i j x (table32 (now (a .entry)))) ⌝ }
+{
+    a[i * 32 + j] = x;
+}
+
+// Adds m times row k to row i, in the columns from lo up to hi.
+pub fn add_multiple(i: usize, k: usize, m: f64, lo: usize, hi: usize, a: &mut [f64; 1024])
+    requires { ⌜ (i < 32) × (k < 32) × (k ≡ i → ⊥) × (lo ≤ hi) × (hi ≤ 32) × (length (now a) ≡ 1024) ⌝ }
+    ensures { λ _. ⌜ Holds (now (a .exit)) (span i lo hi (sumWith m (table32 (now (a .entry)) i) (table32 (now (a .entry)) k)) (table32 (now (a .entry)))) ⌝ }
+{
+    for j in lo..hi {
+        let x = get(i, j, a);
+        let y = get(k, j, a);
+        put(i, j, x + m * y, a);
+    }
+}
+
+// Divides the first r numbers of row i by p.
+pub fn divide(i: usize, p: f64, r: usize, a: &mut [f64; 1024])
+    requires { ⌜ (i < 32) × (r ≤ 32) × (length (now a) ≡ 1024) ⌝ }
+    ensures { λ _. ⌜ Holds (now (a .exit)) (span i 0 r (over p (table32 (now (a .entry)) i)) (table32 (now (a .entry)))) ⌝ }
+{
+    for j in 0..r {
+        let x = get(i, j, a);
+        put(i, j, x / p, a);
+    }
+}
+
+// The first r numbers of row i become zero.
+pub fn clear(i: usize, r: usize, a: &mut [f64; 1024])
+    requires { ⌜ (i < 32) × (r ≤ 32) × (length (now a) ≡ 1024) ⌝ }
+    ensures { λ _. ⌜ Holds (now (a .exit)) (span i 0 r (λ _. 0·0) (table32 (now (a .entry)))) ⌝ }
+{
+    for j in 0..r {
+        put(i, j, 0.0, a);
+    }
+}
