@@ -3,7 +3,7 @@ use mathlib.Core.Path.{_≡_, refl, sym, ap, subst₃}
 use mathlib.Core.Logic.{_↔_}
 use mathlib.Core.Bool.{Bool, true, false, not, cond}
 use Prim.Native.Nat.{ℕ, zero, suc, _+_, _*_, _≤_, _<_, max}
-use native.Mathlib.Nat.{one-le-pow, mul-comm, mul-pos, mul-le-mul-right, eq-of-mul-eq-mul-right, le-of-mul-le-mul-right}
+use native.Mathlib.Nat.{mul-comm, mul-pos, mul-le-mul-right, eq-of-mul-eq-mul-right, le-of-mul-le-mul-right}
 use native.Mathlib.Omega.{arith}
 use lib.Dec.{T, lit<}
 use lib.IntN.{ℤ, pos, negsuc, subℕ, natAbs, _*ℤ_}
@@ -11,7 +11,7 @@ use lib.Ieee.{Float, binary64}
 use Rattle.exact.specs.Sums.{sum}
 use Rattle.exact.proofs.Sums.{zero-sum}
 use Rattle.exact.proofs.Near.{pos-left}
-use Rattle.definitions.specs.Numbers.{finite, units}
+use Rattle.definitions.specs.Numbers.{units}
 use Rattle.definitions.specs.Fractions.{Fraction, _≈_, _≼_, whole, -ᶠ_, _+ᶠ_, _*ᶠ_, _/ᶠ_, numerator, value, total}
 use Rattle.rounding.specs.Good.{Good, one·units}
 use Rattle.rounding.proofs.Value.{by-parts}

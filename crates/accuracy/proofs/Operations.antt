@@ -1,9 +1,8 @@
 -- The two compound operations of the steps, counted in roundings: x + (t / p)·y, and a sum of m additions.
-use Prim.Native.Nat.{ℕ, zero, suc, _+_, _*_, _<_}
+use Prim.Native.Nat.{ℕ, zero, suc, _+_, _*_}
 use mathlib.Core.Path.{_≡_}
 use native.Mathlib.Omega.{arith}
 use lib.Dec.{T}
-use lib.Pow.{pow-pos}
 use lib.Ieee.{Float}
 use Rattle.exact.specs.Chains.{In}
 use Rattle.exact.specs.Near.{Near}
@@ -11,7 +10,7 @@ use Rattle.exact.specs.Sums.{sum as total}
 use Rattle.exact.proofs.Near.{near-eq, near-refl, near-trans, near-grow, near-add, near-term, near-step}
 use Rattle.exact.proofs.Sums.{sum-last}
 use Rattle.definitions.specs.Numbers.{_⊕_, _⊗_, _⊘_, divInRange, addProductInRange, sum, sumInRange, units}
-use Rattle.rounding.specs.Good.{Good, one·units}
+use Rattle.rounding.specs.Good.{Good}
 use Rattle.rounding.proofs.Laws.{sum-good, sum-rounds, product-good, product-rounds, quotient-good, quotient-rounds}
 use Rattle.rounding.proofs.Sums.{range-before, range-last, sum-is-good}
 use Rattle.rounding.proofs.Range.{one-pos}

@@ -1,8 +1,8 @@
 -- The accuracy rule of document 01, for both readings.
-use Prim.Native.Nat.{ℕ, zero, suc, _+_, _*_, _^_, _<_, _≤_}
+use Prim.Native.Nat.{ℕ, zero, _*_, _^_, _<_}
 use native.Mathlib.Nat.{pow-suc, pow-zero, one-mul}
 use native.Mathlib.Omega.{arith}
-use mathlib.Core.Bool.{Bool, true, false, _||_, cond}
+use mathlib.Core.Bool.{Bool, true, false, _||_}
 use mathlib.Core.List.{List}
 use mathlib.Core.Logic.{_⊎_, inl, inr, ⊎-elim}
 use mathlib.Core.Path.{_≡_, refl, sym, subst}
@@ -16,10 +16,10 @@ use Rattle.exact.proofs.Near.{near-grow}
 use Rattle.definitions.specs.LeavingRates.{downward, quotient, inRange}
 use Rattle.definitions.specs.Margins as Margins
 use Rattle.definitions.specs.Sheet.{size, diagonal, system, allowance}
-use Rattle.definitions.specs.Matrix.{matrix, Stage, everyStage}
+use Rattle.definitions.specs.Matrix.{matrix, everyStage}
 use Rattle.definitions.specs.Table.{entry, everyStepInRange}
 use Rattle.definitions.specs.Accuracy.{Binary64, Accurate, AccuracyRule}
-use Rattle.definitions.specs.Questions.{Asked, pass, question1, question2, question3, question4, question10, numberQuestions, tableInput, tableQuestions, Accepted, _then_}
+use Rattle.definitions.specs.Questions.{pass, question1, question2, question3, question4, question10, numberQuestions, tableInput, tableQuestions, Accepted, _then_}
 use Rattle.rounding.specs.Good.{one·units}
 use Rattle.accuracy.specs.LeavingRates.{inUnits, identityColumn, Computed, EngineWithin, EngineAccuracy}
 use Rattle.accuracy.specs.Reduction.{delta, SystemColumns, NearTable}

@@ -3,8 +3,8 @@ use Prim.Native.Nat.{ℕ}
 use mathlib.Core.List.{List, [], _∷_}
 use mathlib.Core.Bool.{cond}
 use lib.Dec.{eqb}
-use lib.Ieee.{Float, round, neg}
-use Rattle.definitions.specs.Fractions.{Fraction, _≈_, whole, -ᶠ_, _*ᶠ_, value, total}
+use lib.Ieee.{Float}
+use Rattle.definitions.specs.Fractions.{_≈_, whole, -ᶠ_, _*ᶠ_, value, total}
 use Rattle.definitions.specs.Matrix.{matrix, everyStage}
 use Rattle.definitions.specs.Table.{entry}
 use Rattle.definitions.specs.Starred.{num, minus}

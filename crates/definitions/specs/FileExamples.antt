@@ -1,5 +1,5 @@
 -- Sheet files: the file of sheet P with what dwell prints for it (document 01, "The sheet file"), and damaged files.
-use Prim.Native.Nat.{ℕ, _+_}
+use Prim.Native.Nat.{ℕ}
 use mathlib.Core.List.{List, [], _∷_, _++_, map}
 use mathlib.Core.Path.{_≡_}
 use Rattle.definitions.specs.Services.{Answer, given, refused}

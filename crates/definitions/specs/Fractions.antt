@@ -1,5 +1,5 @@
 -- Fractions of whole numbers with signed numerators, compared by multiplying across (document 01, "The sheet and its two readings").
-use Prim.Native.Nat.{ℕ, zero, suc, _+_, _*_, _^_, _<_, max}
+use Prim.Native.Nat.{ℕ, zero, suc, _*_, _^_, _<_, max}
 use native.Mathlib.Nat.{mul-pos, le-max-left, one-le-pow}
 use mathlib.Core.Bool.{Bool, true, false, cond}
 use mathlib.Core.Path.{_≡_}

@@ -1,9 +1,9 @@
 -- Steps for leaving rates (document 01, the section of that name; source 000, Proposition 2.4), on r stages in compact order.
 -- Stage k of the paper is k - 1 here, so stages run from 0 to r - 1.
-use Prim.Native.Nat.{ℕ, zero, suc, _+_, _-_}
-use mathlib.Core.Bool.{Bool, true, false, _&&_, _||_, cond}
+use Prim.Native.Nat.{ℕ, zero, suc, _-_}
+use mathlib.Core.Bool.{Bool, _&&_, _||_, cond}
 use lib.Dec.{leb, eqb}
-use lib.Ieee.{Float, add, mul, div}
+use lib.Ieee.{Float}
 use Rattle.definitions.specs.Numbers.{_⊕_, _⊗_, _⊘_, 0·0, 1·0, divInRange, addProductInRange, sum, sumInRange, all}
 use Rattle.definitions.specs.Tables.{stored, storedTable}
 

@@ -1,11 +1,11 @@
 -- Steps for margins (document 01, the section of that name; source 000, Theorem 3.2), for sizes t and margins d of n stages.
 -- "All sums start at plus zero and rise in j."
-use Prim.Native.Nat.{ℕ, zero, suc, _+_, _-_}
-use mathlib.Core.Bool.{Bool, true, false, not, _&&_, _||_, cond}
+use Prim.Native.Nat.{ℕ, zero, suc, _-_}
+use mathlib.Core.Bool.{Bool, true, not, _&&_, _||_, cond}
 use mathlib.Core.List.{List, [], _∷_, _++_}
 use lib.Dec.{leb, eqb}
 use lib.ListN.{length, getD}
-use lib.Ieee.{Float, add, mul, div}
+use lib.Ieee.{Float}
 use Rattle.definitions.specs.Numbers.{_⊕_, _⊗_, _⊘_, 0·0, 1·0, isZero, addInRange, mulInRange, divInRange, sum, sumInRange, all}
 use Rattle.definitions.specs.Tables.{stored, storedTable}
 use Rattle.definitions.specs.LeavingRates.{System, downward, quotient, inRange}

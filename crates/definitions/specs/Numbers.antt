@@ -1,6 +1,6 @@
 -- Numbers: binary64, the three operations of the steps and their range tests (document 01, "Steps for leaving rates" and question 10).
 use Prim.Native.Nat.{ℕ, zero, suc, _+_, _*_, _/_, _^_}
-use mathlib.Core.Bool.{Bool, true, false, not, _&&_, _||_, cond}
+use mathlib.Core.Bool.{Bool, true, false, _&&_, _||_}
 use lib.IntN.{pos, negsuc}
 use lib.Ieee.{Float, nan, inf, fin, binary64, add, sub, mul, div, lt, eq, up, down}
 

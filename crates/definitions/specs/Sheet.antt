@@ -1,11 +1,11 @@
 -- A flow sheet of n stages (document 01, "The sheet and its two readings"): n × n numbers, row by row.
 -- Stage i of the paper is i - 1 here.
 use Prim.Native.Nat.{ℕ, _+_, _*_, _^_}
-use mathlib.Core.Bool.{Bool, cond}
+use mathlib.Core.Bool.{cond}
 use mathlib.Core.List.{List}
 use lib.Dec.{eqb}
 use lib.ListN.{getD}
-use lib.Ieee.{Float, nan, add, sub, neg}
+use lib.Ieee.{Float, nan}
 use Rattle.definitions.specs.Numbers.{_⊕_, _⊖_, 0·0}
 use Rattle.definitions.specs.LeavingRates.{System}
 

@@ -3,16 +3,16 @@ use mathlib.Core.Path.{_≡_, refl, sym, ap, ap₂, _∙_}
 use Prim.Native.Nat.{ℕ, zero, suc, _+_, _-_, _≤_, _<_}
 use native.Mathlib.Omega.{arith}
 use native.Mathlib.Nat.{add-zero, add-suc, le-refl}
-use mathlib.Core.Bool.{Bool, _&&_, cond}
+use mathlib.Core.Bool.{cond}
 use lib.Dec.{eqb}
 use lib.Ieee.{Float}
 use borrow.Author.Tests.{le-leb, lt-leb}
 use Rattle.definitions.specs.Numbers.{_⊕_, _⊗_, _⊘_, 0·0, 1·0}
-use Rattle.definitions.specs.LeavingRates.{System, p, m↓, m↑, b↓, b↑, solved, quotient}
+use Rattle.definitions.specs.LeavingRates.{System, b↓, b↑, solved, quotient}
 use Rattle.elimination.specs.Operators.{between}
 use Rattle.elimination.specs.Steps.{sumWith, over, identityRow, identityRows, rowsAdded, downDone, upDone, dividedRows}
 use Rattle.elimination.specs.Contracts.{Multipliers}
-use Rattle.elimination.proofs.Cases.{by-equal, by-order}
+use Rattle.elimination.proofs.Cases.{by-order}
 use Rattle.elimination.proofs.Operators.{between-in, between-past, between-out}
 use Rattle.elimination.proofs.RowSteps.{step-same}
 use Rattle.steps.proofs.LeavingRates.{column-start, column-before, column-step, upward-start, upward-step}

@@ -1,13 +1,13 @@
 -- From the table operations to the promises of `shared` and `solve`.
-use mathlib.Core.Path.{_≡_, refl, sym, ap, ap₂, _∙_}
-use Prim.Native.Nat.{ℕ, _+_, _≤_, _<_}
+use mathlib.Core.Path.{_≡_, sym, ap, ap₂, _∙_}
+use Prim.Native.Nat.{ℕ, _≤_, _<_}
 use native.Mathlib.Omega.{arith}
 use mathlib.Core.Bool.{Bool, _&&_, cond}
 use mathlib.Core.List.{List}
 use lib.Dec.{eqb}
 use lib.Ieee.{Float}
-use Rattle.definitions.specs.Numbers.{0·0, 1·0, all}
-use Rattle.definitions.specs.LeavingRates.{System, downward, p, m↓, m↑, b↓, solved, quotient, shared, column, inRange}
+use Rattle.definitions.specs.Numbers.{0·0, 1·0}
+use Rattle.definitions.specs.LeavingRates.{System, downward, b↓, solved, inRange}
 use Rattle.elimination.specs.Places.{table32, at32, systemIn, systemOf, Holds, Gives}
 use Rattle.elimination.specs.Steps.{stagesDone, stagesInRange, upwardRows, multipliersInRange, identityRows, downDone, downInRange, upDone, upInRange, dividedRows, quotientsInRange}
 use Rattle.elimination.specs.Contracts.{Multipliers, Keeps, Shared, Solved}

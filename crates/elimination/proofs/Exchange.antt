@@ -1,9 +1,8 @@
 -- Tests gathered row by row are the tests gathered column by column.
-use mathlib.Core.Path.{_≡_, refl, sym, ap, ap₂, _∙_}
-use Prim.Native.Nat.{ℕ, zero, suc, _+_, _-_, _≤_, _<_}
+use mathlib.Core.Path.{_≡_}
+use Prim.Native.Nat.{ℕ, suc, _-_}
 use native.Mathlib.Omega.{arith}
-use mathlib.Core.Bool.{Bool, true, false, _&&_}
-use lib.Dec.{T}
+use mathlib.Core.Bool.{Bool, _&&_}
 use Rattle.definitions.specs.Numbers.{all}
 use Rattle.elimination.proofs.Flags.{same-truth, both, both-left, both-right, each, every}
 

@@ -1,14 +1,13 @@
 -- The laws of `all`, `sum` and `sumInRange`, and the invariant of a loop that gathers a test.
-use mathlib.Core.Path.{_≡_, refl, sym, ap, ap₂, _∙_}
+use mathlib.Core.Path.{_≡_, refl, ap₂}
 use Prim.Native.Nat.{ℕ, zero, suc, _+_, _-_, _≤_, _<_}
 use native.Mathlib.Nat.{le-refl, le-antisymm, sub-zero}
 use native.Mathlib.Omega.{arith}
-use mathlib.Core.Bool.{Bool, true, false, _&&_, _||_}
-use lib.Dec.{T, eqb}
+use mathlib.Core.Bool.{Bool, true, false, _&&_}
+use lib.Dec.{T}
 use lib.Ieee.{Float}
-use borrow.Author.Tests.{eq-eqb, ne-eqb}
 use Rattle.definitions.specs.Numbers.{_⊕_, addInRange, sum, sumInRange, all}
-use Rattle.elimination.proofs.Cases.{by-equal, by-order}
+use Rattle.elimination.proofs.Cases.{by-equal}
 
 -- Two tests with the same truth are equal.
 pub same-truth : (a b : Bool) → (T a → T b) → (T b → T a) → a ≡ b

@@ -1,12 +1,12 @@
 -- Column j of b looks at no other column: where two tables agree in column j, so do the tables after any of the steps on b.
-use mathlib.Core.Path.{_≡_, refl, sym, ap, ap₂, _∙_}
-use Prim.Native.Nat.{ℕ, zero, suc, _+_, _-_, _≤_, _<_}
+use mathlib.Core.Path.{_≡_, sym, ap, ap₂, _∙_}
+use Prim.Native.Nat.{ℕ, zero, suc, _-_, _≤_, _<_}
 use native.Mathlib.Omega.{arith}
 use lib.Ieee.{Float}
 use Rattle.definitions.specs.Numbers.{_⊕_, _⊗_, _⊘_}
 use Rattle.elimination.specs.Steps.{over, rowsAdded, downDone, upDone, dividedRows}
 use Rattle.elimination.proofs.Cases.{by-order}
-use Rattle.elimination.proofs.ColumnSteps.{rows-inside, rows-outside, added, not-added, right-of-added}
+use Rattle.elimination.proofs.ColumnSteps.{rows-inside, added, not-added, right-of-added}
 
 module _ (g : ℕ → ℕ → Float) (j : ℕ) where
   -- One stage: row k added to the rows from lo up to hi in the first c columns.

@@ -1,13 +1,13 @@
 -- The laws behind the range tests.
-use mathlib.Core.Path.{_≡_, refl, sym, ap, ap₂, _∙_}
-use Prim.Native.Nat.{ℕ, zero, suc, _+_, _-_, _≤_, _<_}
+use mathlib.Core.Path.{_≡_}
+use Prim.Native.Nat.{ℕ, suc, _-_, _≤_, _<_}
 use native.Mathlib.Omega.{arith}
-use mathlib.Core.Bool.{Bool, true, false, _&&_, _||_}
+use mathlib.Core.Bool.{Bool, _&&_, _||_}
 use lib.Dec.{T, eqb}
 use lib.Ieee.{Float}
 use borrow.Author.Tests.{eq-eqb, ne-eqb}
 use Rattle.definitions.specs.Numbers.{_⊘_, divInRange, addProductInRange, all}
-use Rattle.definitions.specs.LeavingRates.{p, m↓, multiplier, rowInRange, stageInRange}
+use Rattle.definitions.specs.LeavingRates.{p, m↓, multiplier, rowInRange}
 use Rattle.elimination.specs.Places.{atStage}
 use Rattle.elimination.specs.Steps.{IsStage, sumWithInRange}
 use Rattle.elimination.proofs.Cases.{by-equal, by-order}

@@ -2,8 +2,8 @@
 use mathlib.Core.Path.{_≡_, refl, sym, ap, ap₂, _∙_}
 use Prim.Native.Nat.{ℕ, zero, suc, _+_, _-_, _≤_, _<_}
 use native.Mathlib.Omega.{arith}
-use native.Mathlib.Nat.{le-refl, add-zero, add-suc}
-use mathlib.Core.Bool.{Bool, _&&_}
+use native.Mathlib.Nat.{add-zero, add-suc}
+use mathlib.Core.Bool.{_&&_}
 use lib.Ieee.{Float}
 use Rattle.definitions.specs.Numbers.{_⊕_, _⊗_, _⊘_, 0·0, divInRange, all}
 use Rattle.definitions.specs.LeavingRates.{System, pivot, multiplier, eliminate, begun, downward, p, u, m↓, m↑, rowInRange, stageInRange, sharedBefore, shared}
@@ -16,7 +16,7 @@ use Rattle.elimination.proofs.Operators.{replace-same, replace-other, b
 use Rattle.elimination.proofs.Flags.{all-same}
 use Rattle.steps.proofs.Tables.{stored-at, storedTable-at}
 use Rattle.steps.proofs.LeavingRates.{begun-at}
-use Rattle.elimination.proofs.Same.{Same, same-same, eliminate-same, p-same, m↓-same, u-same, m↑-same, stage-test-same, shared-same}
+use Rattle.elimination.proofs.Same.{Same, same-same, eliminate-same, p-same, m↓-same, u-same, stage-test-same}
 
 -- Stage k of a table f, row by row.
 module _ (r k : ℕ) (f : ℕ → ℕ → Float) where

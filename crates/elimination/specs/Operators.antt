@@ -1,6 +1,6 @@
 -- Operators on sequences, and on tables as sequences of rows: one place changed, and the places from lo up to hi changed. A loop's counter stands for hi.
-use Prim.Native.Nat.{ℕ, _+_}
-use mathlib.Core.Bool.{Bool, _&&_, cond}
+use Prim.Native.Nat.{ℕ}
+use mathlib.Core.Bool.{_&&_, cond}
 use lib.Dec.{ltb, leb, eqb}
 use lib.Ieee.{Float}
 

@@ -1,13 +1,13 @@
 -- What the functions do to a working table f: the steps of `definitions`, with the loops' bounds as parameters.
 use mathlib.Core.Path.{_≡_}
-use Prim.Native.Nat.{ℕ, zero, suc, _+_, _-_}
-use mathlib.Core.Bool.{Bool, _&&_, cond}
+use Prim.Native.Nat.{ℕ, zero, suc, _-_}
+use mathlib.Core.Bool.{Bool, cond}
 use lib.Dec.{eqb}
-use lib.Ieee.{Float, add, mul, div}
+use lib.Ieee.{Float}
 use Rattle.definitions.specs.Numbers.{_⊕_, _⊗_, _⊘_, 0·0, 1·0, divInRange, addProductInRange, all}
 use Rattle.definitions.specs.LeavingRates.{pivot, stageInRange}
 use Rattle.elimination.specs.Places.{systemIn, atStage}
-use Rattle.elimination.specs.Operators.{replace, between, put, span}
+use Rattle.elimination.specs.Operators.{replace, between, put}
 
 -- A row with m times another row.
 unfoldable pub sumWith : Float → (ℕ → Float) → (ℕ → Float) → ℕ → Float

@@ -1,7 +1,7 @@
 -- Comparisons turned round: a number that is at most another is not above it, for every float.
 use Prim.Native.Nat.{ℕ, _+_, _*_, _<_, _≤_}
 use native.Mathlib.Omega.{arith}
-use mathlib.Core.Bool.{Bool, true, false, not, _&&_, _||_, Bool·beq}
+use mathlib.Core.Bool.{Bool, true, false, not, _&&_, _||_}
 use mathlib.Core.Path.{_≡_}
 use lib.Dec.{T, ltb, eqb, ltb→lt, eqb→eq, not-T}
 use lib.Ieee.{Float, nan, inf, fin, up, down, lt, le, eq, below, level}

@@ -1,18 +1,16 @@
 -- Questions that passed, taken apart into facts about the sheet.
-use mathlib.Core.Path.{_≡_, sym, subst}
+use mathlib.Core.Path.{_≡_}
 use mathlib.Core.Logic.{_⊎_, inl, inr, ⊎-elim}
 use mathlib.Core.List.{List}
-use mathlib.Core.Bool.{Bool, true, _&&_, _||_}
-use Prim.Native.Nat.{ℕ, zero, suc, _+_, _*_, _≤_, _<_, zero-le}
-use native.Mathlib.Decide.{ℕ-discrete}
-use native.Mathlib.Omega.{arith}
+use mathlib.Core.Bool.{_&&_, _||_}
+use Prim.Native.Nat.{ℕ, _*_, _≤_, _<_}
 use lib.Dec.{T, leb, eqb}
 use lib.ListN.{length}
 use lib.Ieee.{Float}
 use borrow.Author.Tests.{leb-true, eqb-true, eq-eqb}
 use Rattle.definitions.specs.Numbers.{finite}
 use Rattle.definitions.specs.Sheet.{place}
-use Rattle.definitions.specs.Questions.{Asked, pass, _then_, ask, askRow, askRows, askStages, question1, question2, question3, question4, question5, question6, question7, question8, question9, rightSign, largeEnough, getsOut, numberQuestions, tableInput, entryInput}
+use Rattle.definitions.specs.Questions.{Asked, pass, _then_, question1, question2, question3, question4, question5, question6, question7, question8, question9, rightSign, largeEnough, getsOut, numberQuestions, tableInput, entryInput}
 use Rattle.steps.proofs.Questions.{rows-yes, stages-yes}
 use Rattle.sheet.specs.Input.{Input}
 use Rattle.sheet.proofs.Bools.{and-both, or-cases}

@@ -1,10 +1,9 @@
 -- The equations of the steps for leaving rates, one line each. `at` is `downward r start`.
-use Prim.Native.Nat.{ℕ, zero, suc, _+_, _-_, _<_, _≤_}
-use mathlib.Core.Bool.{Bool, true, false, cond}
+use Prim.Native.Nat.{ℕ, suc, _-_, _<_}
+use mathlib.Core.Bool.{true, false, cond}
 use mathlib.Core.Path.{_≡_, refl, sym, ap, _∙_}
 use native.Mathlib.Omega.{arith}
-use lib.Dec.{T, leb, eqb}
-use lib.Ieee.{Float}
+use lib.Dec.{leb, eqb}
 use Rattle.definitions.specs.Numbers.{_⊕_, _⊗_, _⊘_, 0·0, 1·0, sum}
 use Rattle.definitions.specs.LeavingRates.{System, pivot, multiplier, eliminate, begun, downward, p, u, m↓, m↑, b↓, b↑, solved, quotient}
 use Rattle.steps.proofs.Tables.{stored-at, storedTable-at}

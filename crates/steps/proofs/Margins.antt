@@ -1,16 +1,15 @@
 -- The equations of the steps for margins, one line each.
 use Prim.Native.Nat.{ℕ, zero, suc, _+_, _-_, _<_, _≤_}
-use mathlib.Core.Bool.{Bool, true, false, not, cond, _||_}
-use mathlib.Core.Path.{_≡_, refl, sym, ap, ap₂, _∙_, subst}
+use mathlib.Core.Bool.{true, false, not, cond, _||_}
+use mathlib.Core.Path.{_≡_, refl, sym, ap, _∙_}
 use native.Mathlib.Nat.{zero-add, add-zero, add-suc}
-use native.Mathlib.Decide.{decLt}
 use native.Mathlib.Omega.{arith}
-use lib.Dec.{T, leb, eqb, eqb-refl}
+use lib.Dec.{leb, eqb}
 use lib.ListN.{length, getD}
 use lib.Ieee.{Float}
 use borrow.Author.Tests.{eq-eqb, ne-eqb}
 use Rattle.definitions.specs.Numbers.{_⊕_, _⊗_, _⊘_, 0·0, 1·0, sum, isZero}
-use Rattle.definitions.specs.LeavingRates.{System, downward, quotient}
+use Rattle.definitions.specs.LeavingRates.{downward, quotient}
 use Rattle.definitions.specs.Margins.{stagesWith, rank, compact, sumWith, hOf, kBefore, h, a, kept, scaled, keptSystem, y, known, joined, xAfter, entry}
 use Rattle.steps.proofs.Tables.{stored-at, storedTable-at}
 use Rattle.steps.proofs.Sums.{sum-cong}

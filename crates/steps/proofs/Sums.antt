@@ -1,7 +1,7 @@
 -- Sums of numbers look at their own terms alone.
 use Prim.Native.Nat.{ℕ, zero, suc, _+_, _<_}
-use mathlib.Core.Bool.{Bool, true, false, cond}
-use mathlib.Core.Path.{_≡_, refl, ap, ap₂, _∙_}
+use mathlib.Core.Bool.{Bool, true, false}
+use mathlib.Core.Path.{_≡_, refl, ap₂}
 use native.Mathlib.Omega.{arith}
 use lib.Ieee.{Float}
 use Rattle.definitions.specs.Numbers.{_⊕_, 0·0, sum}

@@ -1,5 +1,4 @@
 -- `elimination::downward::begin` meets its contract: at column j the sizes before it are added. Assumes nothing.
-use mathlib.Core.Path.{_≡_}
 use Prim.Native.Nat.{_≤_, _-_, suc}
 use native.Mathlib.Numerals.{add-one}
 use native.Mathlib.Omega.{arith}

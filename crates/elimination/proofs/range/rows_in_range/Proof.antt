@@ -1,5 +1,4 @@
 -- `elimination::range::rows_in_range` meets its contract: at row i the rows from k + 1 before it are tested. Assumes nothing.
-use mathlib.Core.Path.{refl}
 use Prim.Native.Nat.{_≤_, _-_, suc}
 use native.Mathlib.Omega.{arith}
 use native.Mathlib.Numerals.{add-one}
