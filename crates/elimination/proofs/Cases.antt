@@ -1,4 +1,4 @@
--- Two numbers are equal or not, and one is at most the other or above it.
+-- Two numbers are equal or not, and one is at most the other or above it; and a law of `&&`.
 use mathlib.Core.Path.{_≡_, refl}
 use mathlib.Core.Bool.{Bool, true, false, _&&_}
 use Prim.Native.Nat.{ℕ, _≤_, _<_}

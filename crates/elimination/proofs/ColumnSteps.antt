@@ -6,15 +6,15 @@ use native.Mathlib.Nat.{add-zero, add-suc, le-refl}
 use mathlib.Core.Bool.{cond}
 use lib.Dec.{eqb}
 use lib.Ieee.{Float}
-use borrow.Author.Tests.{le-leb, lt-leb}
 use Rattle.definitions.specs.Numbers.{_⊕_, _⊗_, _⊘_, 0·0, 1·0}
 use Rattle.definitions.specs.LeavingRates.{System, b↓, b↑, solved, quotient}
 use Rattle.elimination.specs.Operators.{between}
-use Rattle.elimination.specs.Steps.{sumWith, over, identityRow, identityRows, rowsAdded, downDone, upDone, dividedRows}
+use Rattle.elimination.specs.Steps.{plusMultiple, over, identityRow, identityRows, rowsAdded, downDone, upDone, dividedRows}
 use Rattle.elimination.specs.Contracts.{Multipliers}
 use Rattle.elimination.proofs.Cases.{by-order}
 use Rattle.elimination.proofs.Operators.{between-in, between-past, between-out}
 use Rattle.elimination.proofs.RowSteps.{step-same}
+use borrow.Author.Tests.{le-leb, lt-leb}
 use Rattle.steps.proofs.LeavingRates.{column-start, column-before, column-step, upward-start, upward-step}
 
 -- The r × r places of a table replaced.
@@ -30,24 +30,24 @@ module _ (r : ℕ) (g f : ℕ → ℕ → Float) (i j : ℕ) where
 
 -- One stage, place by place.
 module _ (k lo hi c : ℕ) (g f : ℕ → ℕ → Float) where
-  row-added : (i : ℕ) → lo ≤ i → i < hi → rowsAdded k lo hi c g f i ≡ between 0 c (sumWith (g i k) (f i) (f k)) (f i)
+  row-added : (i : ℕ) → lo ≤ i → i < hi → rowsAdded k lo hi c g f i ≡ between 0 c (plusMultiple (g i k) (f i) (f k)) (f i)
   unfolding rowsAdded
-  row-added i l m = between-in lo hi (λ i. between 0 c (sumWith (g i k) (f i) (f k)) (f i)) f i l m
+  row-added i l m = between-in lo hi (λ i. between 0 c (plusMultiple (g i k) (f i) (f k)) (f i)) f i l m
 
   pub added : (i j : ℕ) → lo ≤ i → i < hi → j < c → rowsAdded k lo hi c g f i j ≡ f i j ⊕ g i k ⊗ f k j
-  unfolding sumWith
-  added i j l m n = ap (λ (row : ℕ → Float). row j) (row-added i l m) ∙ between-in 0 c (sumWith (g i k) (f i) (f k)) (f i) j (omega arith) n
+  unfolding plusMultiple
+  added i j l m n = ap (λ (row : ℕ → Float). row j) (row-added i l m) ∙ between-in 0 c (plusMultiple (g i k) (f i) (f k)) (f i) j (omega arith) n
 
   pub not-added : (i j : ℕ) → (lo ≤ i → i < hi → ⊥) → rowsAdded k lo hi c g f i j ≡ f i j
   unfolding rowsAdded
-  not-added i j n = ap (λ (row : ℕ → Float). row j) (between-out lo hi (λ i. between 0 c (sumWith (g i k) (f i) (f k)) (f i)) f i n)
+  not-added i j n = ap (λ (row : ℕ → Float). row j) (between-out lo hi (λ i. between 0 c (plusMultiple (g i k) (f i) (f k)) (f i)) f i n)
 
   pub right-of-added : (i j : ℕ) → c ≤ j → rowsAdded k lo hi c g f i j ≡ f i j
   right-of-added i j n =
       by-order lo i
       (λ l. by-order hi i
       (λ m. not-added i j (λ a b. omega arith))
-      (λ m. ap (λ (row : ℕ → Float). row j) (row-added i l m) ∙ between-past 0 c (sumWith (g i k) (f i) (f k)) (f i) j n))
+      (λ m. ap (λ (row : ℕ → Float). row j) (row-added i l m) ∙ between-past 0 c (plusMultiple (g i k) (f i) (f k)) (f i) j n))
       (λ l. not-added i j (λ a b. omega arith))
 
 -- The places outside r × r are kept.

@@ -8,7 +8,7 @@ use lib.Dec.{eqb}
 use lib.Ieee.{Float}
 use Rattle.definitions.specs.Numbers.{0·0, 1·0, divInRange, addProductInRange, all}
 use Rattle.definitions.specs.LeavingRates.{System, p, m↓, m↑, b↓, b↑, solved, columnBefore, columnUpward, column}
-use Rattle.elimination.specs.Steps.{sumWithInRange, overInRange, rowsAddedInRange, downDone, downInRange, upDone, upInRange, quotientsInRange}
+use Rattle.elimination.specs.Steps.{plusMultipleInRange, overInRange, rowsAddedInRange, downDone, downInRange, upDone, upInRange, quotientsInRange}
 use Rattle.elimination.specs.Contracts.{Multipliers}
 use Rattle.elimination.proofs.Flags.{all-same}
 use Rattle.elimination.proofs.Exchange.{exchange, triangle, all-both}
@@ -48,20 +48,20 @@ module _ (r : ℕ) (at : ℕ → System) where
   -- With the pivots and multipliers in the table g.
   module _ (g : ℕ → ℕ → Float) (h : Multipliers r at g) where
     pub down-test : (f : ℕ → ℕ → Float) → ((i j : ℕ) → i < r → j < r → f i j ≡ cond (eqb i j) 1·0 0·0) → downInRange r g f r ≡ all (λ j. columnBefore r at j r) 0 r
-    unfolding downInRange rowsAddedInRange sumWithInRange downStep
+    unfolding downInRange rowsAddedInRange plusMultipleInRange downStep
     down-test f one =
         all-same (λ l. rowsAddedInRange l (suc l) r (suc l) g (downDone r g f l)) (λ l. all (λ i. all (downStep l i) 0 (suc l)) (suc l) (r - suc l)) 0 r
-        (λ l a b. all-same (λ i. all (sumWithInRange (g i l) (downDone r g f l i) (downDone r g f l l)) 0 (suc l)) (λ i. all (downStep l i) 0 (suc l)) (suc l) (r - suc l)
-        (λ i c d. all-same (sumWithInRange (g i l) (downDone r g f l i) (downDone r g f l l)) (downStep l i) 0 (suc l)
+        (λ l a b. all-same (λ i. all (plusMultipleInRange (g i l) (downDone r g f l i) (downDone r g f l l)) 0 (suc l)) (λ i. all (downStep l i) 0 (suc l)) (suc l) (r - suc l)
+        (λ i c d. all-same (plusMultipleInRange (g i l) (downDone r g f l i) (downDone r g f l l)) (downStep l i) 0 (suc l)
         (λ j e o. step-test-same (down-row r at g h f one l i j (omega arith) (omega arith) (omega arith)) (h .below l i c (omega arith)) (down-row r at g h f one l l j (le-refl l) (omega arith) (omega arith)))))
         ∙ before-columns
 
     pub up-test : (f : ℕ → ℕ → Float) → ((i j : ℕ) → i < r → j < r → f i j ≡ b↓ r at j i i) → upInRange r g f r ≡ all (λ j. columnUpward r at j r) 0 r
-    unfolding upInRange rowsAddedInRange sumWithInRange upStep
+    unfolding upInRange rowsAddedInRange plusMultipleInRange upStep
     up-test f start =
         all-same (λ l. rowsAddedInRange (r - suc l) 0 (r - suc l) r g (upDone r g f l)) (λ l. all (λ i. all (upStep l i) 0 r) 0 (r - suc l)) 0 r
-        (λ l a b. rw (sub-zero (r - suc l)) (all-same (λ i. all (sumWithInRange (g i (r - suc l)) (upDone r g f l i) (upDone r g f l (r - suc l))) 0 r) (λ i. all (upStep l i) 0 r) 0 (r - suc l)
-        (λ i c d. all-same (sumWithInRange (g i (r - suc l)) (upDone r g f l i) (upDone r g f l (r - suc l))) (upStep l i) 0 r
+        (λ l a b. rw (sub-zero (r - suc l)) (all-same (λ i. all (plusMultipleInRange (g i (r - suc l)) (upDone r g f l i) (upDone r g f l (r - suc l))) 0 r) (λ i. all (upStep l i) 0 r) 0 (r - suc l)
+        (λ i c d. all-same (plusMultipleInRange (g i (r - suc l)) (upDone r g f l i) (upDone r g f l (r - suc l))) (upStep l i) 0 r
         (λ j e o. step-test-same (up-row r at g h f start l i j (omega arith) (omega arith)) (h .above (r - suc l) i (omega arith) (omega arith)) (up-row r at g h f start l (r - suc l) j (omega arith) (omega arith))))))
         ∙ upward-columns
 

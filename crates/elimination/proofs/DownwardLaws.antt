@@ -9,12 +9,12 @@ use lib.Ieee.{Float}
 use Rattle.definitions.specs.Numbers.{_⊕_, _⊗_, _⊘_}
 use Rattle.elimination.specs.Places.{table32, Holds}
 use Rattle.elimination.specs.Operators.{replace, between, put, span}
-use Rattle.elimination.specs.Steps.{sumWith, overPivot, IsStage, eliminatedRow, eliminatedRows, stageDone}
+use Rattle.elimination.specs.Steps.{plusMultiple, overPivot, IsStage, eliminatedRow, eliminatedRows, stageDone}
 use Rattle.elimination.proofs.Operators.{between-same, put-replaced}
 
 -- Row i at stage k: the sums along the row, then the multiplier, then the leaving rate.
 pub row-eliminated : (r k i : ℕ) (s p : Float) (f : ℕ → ℕ → Float) {m e : Float} {xs ys zs : List Float}
-    → Holds xs (span i (k + 1) r (sumWith m (f i) (f k)) f)
+    → Holds xs (span i (k + 1) r (plusMultiple m (f i) (f k)) f)
     → Holds ys (put i k m (table32 xs))
     → Holds zs (put i i e (table32 ys))
     → m ≡ f i k ⊘ p
@@ -26,7 +26,7 @@ row-eliminated r k i s p f {m} {e} h₁ h₂ h₃ a b =
       long = h₃ .long;
       is =
           h₃ .is
-          ∙ rw (h₂ .is, h₁ .is, put-replaced i k m (between (k + 1) r (sumWith m (f i) (f k)) (f i)) f, put-replaced i i e (replace k m (between (k + 1) r (sumWith m (f i) (f k)) (f i))) f, add-one k, b, a);
+          ∙ rw (h₂ .is, h₁ .is, put-replaced i k m (between (k + 1) r (plusMultiple m (f i) (f k)) (f i)) f, put-replaced i i e (replace k m (between (k + 1) r (plusMultiple m (f i) (f k)) (f i))) f, add-one k, b, a);
     }
 
 -- Stage k: its rows, then its pivot.

@@ -1,18 +1,21 @@
-pub mod Cases
-pub mod Same
-pub mod SharedLaws
-pub mod ColumnSteps
-pub mod Exchange
-pub mod ColumnTests
-pub mod EngineLaws
-pub mod OneColumn
+-- Laws that other crates cite: the equations of the steps, what a zero multiplier does, that a column looks at no other, systems that agree;
 pub mod ZeroMultiplier
-pub mod Operators
-pub mod RowSteps
+pub mod OneColumn
+pub mod Same
+-- tables as functions, and the invariants of loops over them.
+pub mod Cases
 pub mod Places
+pub mod Operators
 pub mod Loops
 pub mod Flags
-pub mod Stages
-pub mod RangeLaws
-pub mod DownwardLaws
-pub mod ColumnLaws
+pub mod Exchange
+-- What the proofs of this crate's functions rest on.
+mod RowSteps
+mod Stages
+mod RangeLaws
+mod DownwardLaws
+mod ColumnLaws
+mod SharedLaws
+mod ColumnSteps
+mod ColumnTests
+mod EngineLaws

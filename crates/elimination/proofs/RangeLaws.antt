@@ -9,7 +9,7 @@ use borrow.Author.Tests.{eq-eqb, ne-eqb}
 use Rattle.definitions.specs.Numbers.{_⊘_, divInRange, addProductInRange, all}
 use Rattle.definitions.specs.LeavingRates.{p, m↓, multiplier, rowInRange}
 use Rattle.elimination.specs.Places.{atStage}
-use Rattle.elimination.specs.Steps.{IsStage, sumWithInRange}
+use Rattle.elimination.specs.Steps.{IsStage, plusMultipleInRange}
 use Rattle.elimination.proofs.Cases.{by-equal, by-order}
 use Rattle.elimination.proofs.Flags.{same-truth, both, both-left, both-right, each, every}
 
@@ -55,8 +55,8 @@ module _ (q : ℕ → Bool) (lo i hi : ℕ) (low : lo ≤ i) (high : i < hi) whe
 -- Row i at stage k of a table.
 pub row-test : (r k i : ℕ) (f : ℕ → ℕ → Float) (s q : Float) → k < i → i < r → IsStage r k f s q
     → (divInRange (f i k) q && addProductInRange (f i i) (f i k ⊘ q) s
-    && (all (sumWithInRange (f i k ⊘ q) (f i) (f k)) (suc k) (i - suc k) && all (sumWithInRange (f i k ⊘ q) (f i) (f k)) (suc i) (r - suc i)))
+    && (all (plusMultipleInRange (f i k ⊘ q) (f i) (f k)) (suc k) (i - suc k) && all (plusMultipleInRange (f i k ⊘ q) (f i) (f k)) (suc i) (r - suc i)))
     ≡ rowInRange r (atStage f) k i
-unfolding rowInRange m↓ p multiplier sumWithInRange
+unfolding rowInRange m↓ p multiplier plusMultipleInRange
 row-test r k i f s q l h e =
-    rw (both-sides (sumWithInRange (f i k ⊘ q) (f i) (f k)) (suc k) i r l h, e .sum, e .pivots)
+    rw (both-sides (plusMultipleInRange (f i k ⊘ q) (f i) (f k)) (suc k) i r l h, e .sum, e .pivots)

@@ -5,7 +5,7 @@ use mathlib.Core.Bool.{Bool}
 use lib.Ieee.{Float}
 use Rattle.definitions.specs.Numbers.{_⊕_, _⊗_, _⊘_, divInRange, addProductInRange}
 use Rattle.elimination.specs.Operators.{between}
-use Rattle.elimination.specs.Steps.{sumWith, sumWithInRange, over, overInRange, overPivot, overPivotInRange}
+use Rattle.elimination.specs.Steps.{plusMultiple, plusMultipleInRange, over, overInRange, overPivot, overPivotInRange}
 
 module _ {x x' m m' y y' : Float} (a : x ≡ x') (e : m ≡ m') (b : y ≡ y') where
   pub step-same : x ⊕ m ⊗ y ≡ x' ⊕ m' ⊗ y'
@@ -17,13 +17,13 @@ module _ {x x' m m' y y' : Float} (a : x ≡ x') (e : m ≡ m') (b : y ≡ y') w
 -- At column j of a row.
 module _ (j : ℕ) (own : ℕ → Float) {x : Float} (a : x ≡ own j) where
   module _ (m : Float) (other : ℕ → Float) {y : Float} (b : y ≡ other j) where
-    pub sum-with : x ⊕ m ⊗ y ≡ sumWith m own other j
-    unfolding sumWith
-    sum-with = step-same a refl b
+    pub plus-multiple : x ⊕ m ⊗ y ≡ plusMultiple m own other j
+    unfolding plusMultiple
+    plus-multiple = step-same a refl b
 
-    pub sum-with-test : {ok : Bool} → ok ≡ addProductInRange x m y → ok ≡ sumWithInRange m own other j
-    unfolding sumWithInRange
-    sum-with-test e = e ∙ step-test-same a refl b
+    pub plus-multiple-test : {ok : Bool} → ok ≡ addProductInRange x m y → ok ≡ plusMultipleInRange m own other j
+    unfolding plusMultipleInRange
+    plus-multiple-test e = e ∙ step-test-same a refl b
 
   module _ (p : Float) where
     pub over-is : x ⊘ p ≡ over p own j
@@ -45,7 +45,7 @@ module _ (f : ℕ → ℕ → Float) (i k : ℕ) {x p : Float} (a : x ≡ f i k)
   over-pivot-test e = e ∙ rw (a, b)
 
 -- Whole rows.
-pub row-sum-same : (c : ℕ) {m m' : Float} {own own' other other' : ℕ → Float} → m ≡ m' → own ≡ own' → other ≡ other' → between 0 c (sumWith m own other) own ≡ between 0 c (sumWith m' own' other') own'
+pub row-sum-same : (c : ℕ) {m m' : Float} {own own' other other' : ℕ → Float} → m ≡ m' → own ≡ own' → other ≡ other' → between 0 c (plusMultiple m own other) own ≡ between 0 c (plusMultiple m' own' other') own'
 row-sum-same c e a b = rw (e, a, b)
 
 pub row-over-same : (c : ℕ) {p p' : Float} {own own' : ℕ → Float} → p ≡ p' → own ≡ own' → between 0 c (over p own) own ≡ between 0 c (over p' own') own'

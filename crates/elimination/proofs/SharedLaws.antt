@@ -9,7 +9,7 @@ use Rattle.definitions.specs.Numbers.{_⊕_, _⊗_, _⊘_, 0·0, divInRange, al
 use Rattle.definitions.specs.LeavingRates.{System, pivot, multiplier, eliminate, begun, downward, p, u, m↓, m↑, rowInRange, stageInRange, sharedBefore, shared}
 use Rattle.elimination.specs.Places.{systemIn, atStage}
 use Rattle.elimination.specs.Operators.{replace, between, put}
-use Rattle.elimination.specs.Steps.{sumWith, eliminatedRow, eliminatedRows, stageDone, stagesDone, stagesInRange, overPivot, upwardRows, overPivotInRange, multipliersInRange}
+use Rattle.elimination.specs.Steps.{plusMultiple, eliminatedRow, eliminatedRows, stageDone, stagesDone, stagesInRange, overPivot, upwardRows, overPivotInRange, multipliersInRange}
 use Rattle.elimination.specs.Contracts.{Multipliers}
 use Rattle.elimination.proofs.Cases.{by-equal, by-order}
 use Rattle.elimination.proofs.Operators.{replace-same, replace-other, between-in, between-low, between-past, between-out}
@@ -43,24 +43,24 @@ module _ (r k : ℕ) (f : ℕ → ℕ → Float) where
 module _ (r k : ℕ) (s q : Float) (i : ℕ) (own other : ℕ → Float) (l : k < i) where
   exit-place : eliminatedRow r k s q i own other i ≡ own i ⊕ (own k ⊘ q) ⊗ s
   unfolding eliminatedRow
-  exit-place = replace-same i (own i ⊕ (own k ⊘ q) ⊗ s) (replace k (own k ⊘ q) (between (suc k) r (sumWith (own k ⊘ q) own other) own))
+  exit-place = replace-same i (own i ⊕ (own k ⊘ q) ⊗ s) (replace k (own k ⊘ q) (between (suc k) r (plusMultiple (own k ⊘ q) own other) own))
 
-  inner : (j : ℕ) → (j ≡ i → ⊥) → eliminatedRow r k s q i own other j ≡ replace k (own k ⊘ q) (between (suc k) r (sumWith (own k ⊘ q) own other) own) j
+  inner : (j : ℕ) → (j ≡ i → ⊥) → eliminatedRow r k s q i own other j ≡ replace k (own k ⊘ q) (between (suc k) r (plusMultiple (own k ⊘ q) own other) own) j
   unfolding eliminatedRow
-  inner j n = replace-other i (own i ⊕ (own k ⊘ q) ⊗ s) (replace k (own k ⊘ q) (between (suc k) r (sumWith (own k ⊘ q) own other) own)) j n
+  inner j n = replace-other i (own i ⊕ (own k ⊘ q) ⊗ s) (replace k (own k ⊘ q) (between (suc k) r (plusMultiple (own k ⊘ q) own other) own)) j n
 
   multiplier-place : eliminatedRow r k s q i own other k ≡ own k ⊘ q
-  multiplier-place = inner k (λ e. omega arith) ∙ replace-same k (own k ⊘ q) (between (suc k) r (sumWith (own k ⊘ q) own other) own)
+  multiplier-place = inner k (λ e. omega arith) ∙ replace-same k (own k ⊘ q) (between (suc k) r (plusMultiple (own k ⊘ q) own other) own)
 
-  along : (j : ℕ) → (j ≡ i → ⊥) → (j ≡ k → ⊥) → eliminatedRow r k s q i own other j ≡ between (suc k) r (sumWith (own k ⊘ q) own other) own j
-  along j n o = inner j n ∙ replace-other k (own k ⊘ q) (between (suc k) r (sumWith (own k ⊘ q) own other) own) j o
+  along : (j : ℕ) → (j ≡ i → ⊥) → (j ≡ k → ⊥) → eliminatedRow r k s q i own other j ≡ between (suc k) r (plusMultiple (own k ⊘ q) own other) own j
+  along j n o = inner j n ∙ replace-other k (own k ⊘ q) (between (suc k) r (plusMultiple (own k ⊘ q) own other) own) j o
 
   size-place : (j : ℕ) → k < j → j < r → (i ≡ j → ⊥) → eliminatedRow r k s q i own other j ≡ own j ⊕ (own k ⊘ q) ⊗ other j
-  unfolding sumWith
-  size-place j a b n = along j (λ e. n (sym e)) (λ e. omega arith) ∙ between-in (suc k) r (sumWith (own k ⊘ q) own other) own j a b
+  unfolding plusMultiple
+  size-place j a b n = along j (λ e. n (sym e)) (λ e. omega arith) ∙ between-in (suc k) r (plusMultiple (own k ⊘ q) own other) own j a b
 
   kept-place : (j : ℕ) → (k ≤ j → j < r → ⊥) → (j ≡ i → ⊥) → (j ≡ k → ⊥) → eliminatedRow r k s q i own other j ≡ own j
-  kept-place j n o e = along j o e ∙ between-out (suc k) r (sumWith (own k ⊘ q) own other) own j (λ a b. n (omega arith) b)
+  kept-place j n o e = along j o e ∙ between-out (suc k) r (plusMultiple (own k ⊘ q) own other) own j (λ a b. n (omega arith) b)
 
 -- A stage is one step of the definition, and keeps the places outside its block.
 module _ (r k : ℕ) (f : ℕ → ℕ → Float) (h : k < r) where

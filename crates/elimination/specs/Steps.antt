@@ -10,11 +10,11 @@ use Rattle.elimination.specs.Places.{systemIn, atStage}
 use Rattle.elimination.specs.Operators.{replace, between, put}
 
 -- A row with m times another row.
-unfoldable pub sumWith : Float → (ℕ → Float) → (ℕ → Float) → ℕ → Float
-sumWith m own other j = own j ⊕ m ⊗ other j
+unfoldable pub plusMultiple : Float → (ℕ → Float) → (ℕ → Float) → ℕ → Float
+plusMultiple m own other j = own j ⊕ m ⊗ other j
 
-unfoldable pub sumWithInRange : Float → (ℕ → Float) → (ℕ → Float) → ℕ → Bool
-sumWithInRange m own other j = addProductInRange (own j) m (other j)
+unfoldable pub plusMultipleInRange : Float → (ℕ → Float) → (ℕ → Float) → ℕ → Bool
+plusMultipleInRange m own other j = addProductInRange (own j) m (other j)
 
 -- A row over a number p.
 unfoldable pub over : Float → (ℕ → Float) → ℕ → Float
@@ -32,7 +32,7 @@ pub record IsStage (r k : ℕ) (f : ℕ → ℕ → Float) (s p : Float) : Type 
 unfoldable pub eliminatedRow : ℕ → ℕ → Float → Float → ℕ → (ℕ → Float) → (ℕ → Float) → ℕ → Float
 eliminatedRow r k s p i own other =
     let m = own k ⊘ p in
-    replace i (own i ⊕ m ⊗ s) (replace k m (between (suc k) r (sumWith m own other) own))
+    replace i (own i ⊕ m ⊗ s) (replace k m (between (suc k) r (plusMultiple m own other) own))
 
 -- The rows after k and before hi.
 unfoldable pub eliminatedRows : ℕ → ℕ → Float → Float → ℕ → (ℕ → ℕ → Float) → ℕ → ℕ → Float
@@ -71,10 +71,10 @@ identityRows r hi f = between 0 hi (λ i. between 0 r (identityRow i) (f i)) f
 
 -- Stage k in the first c columns of b: row k added to the rows from lo up to hi, with each row's multiplier g_ik.
 unfoldable pub rowsAdded : ℕ → ℕ → ℕ → ℕ → (ℕ → ℕ → Float) → (ℕ → ℕ → Float) → ℕ → ℕ → Float
-rowsAdded k lo hi c g f = between lo hi (λ i. between 0 c (sumWith (g i k) (f i) (f k)) (f i)) f
+rowsAdded k lo hi c g f = between lo hi (λ i. between 0 c (plusMultiple (g i k) (f i) (f k)) (f i)) f
 
 unfoldable pub rowsAddedInRange : ℕ → ℕ → ℕ → ℕ → (ℕ → ℕ → Float) → (ℕ → ℕ → Float) → Bool
-rowsAddedInRange k lo hi c g f = all (λ i. all (sumWithInRange (g i k) (f i) (f k)) 0 c) lo (hi - lo)
+rowsAddedInRange k lo hi c g f = all (λ i. all (plusMultipleInRange (g i k) (f i) (f k)) 0 c) lo (hi - lo)
 
 -- The downward stages before k,
 unfoldable pub downDone : ℕ → (ℕ → ℕ → Float) → (ℕ → ℕ → Float) → ℕ → ℕ → ℕ → Float

@@ -4,7 +4,7 @@
 use crate::range;
 use crate::row;
 ghost use mathlib.Core.Path.{_≡_};
-ghost use Prim.Native.Nat.{suc, _≤_, _<_};
+ghost use Prim.Native.Nat.{_≤_, _<_};
 ghost use lib.ListN.{length};
 ghost use Rattle.elimination.specs.Places.{table32, Holds, Gives};
 ghost use Rattle.elimination.specs.Steps.{identityRows, rowsAdded, rowsAddedInRange, downDone, downInRange, upDone, upInRange, dividedRows, quotientsInRange};

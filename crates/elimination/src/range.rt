@@ -8,7 +8,7 @@ ghost use lib.ListN.{length};
 ghost use Rattle.definitions.specs.Numbers.{addProductInRange, sumInRange, all};
 ghost use Rattle.definitions.specs.LeavingRates.{rowInRange, stageInRange};
 ghost use Rattle.elimination.specs.Places.{table32, atStage};
-ghost use Rattle.elimination.specs.Steps.{sumWithInRange, overInRange, overPivotInRange, IsStage, multipliersInRange, rowsAddedInRange, quotientsInRange};
+ghost use Rattle.elimination.specs.Steps.{plusMultipleInRange, overInRange, overPivotInRange, IsStage, multipliersInRange, rowsAddedInRange, quotientsInRange};
 
 // The two steps of x + m·y.
 pub fn add_product_in_range(x: f64, m: f64, y: f64) -> bool
@@ -22,7 +22,7 @@ pub fn add_product_in_range(x: f64, m: f64, y: f64) -> bool
 // m times row k added to row i, in the columns from lo up to hi.
 pub fn multiple_in_range(i: usize, k: usize, m: f64, lo: usize, hi: usize, a: &[f64; 1024]) -> bool
     requires { ⌜ (i < 32) × (k < 32) × (lo ≤ hi) × (hi ≤ 32) × (length (now a) ≡ 1024) ⌝ }
-    ensures { λ ok. ⌜ ok ≡ all (sumWithInRange m (table32 (now (a .entry)) i) (table32 (now (a .entry)) k)) lo (hi - lo) ⌝ }
+    ensures { λ ok. ⌜ ok ≡ all (plusMultipleInRange m (table32 (now (a .entry)) i) (table32 (now (a .entry)) k)) lo (hi - lo) ⌝ }
 {
     let mut ok = true;
     for j in lo..hi {

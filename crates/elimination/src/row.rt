@@ -5,7 +5,7 @@ ghost use lib.ListN.{length};
 ghost use Rattle.elimination.specs.Places.{table32, Holds};
 ghost use Rattle.elimination.specs.Operators.{put, span};
 ghost use Rattle.definitions.specs.Numbers.{0·0};
-ghost use Rattle.elimination.specs.Steps.{sumWith, over};
+ghost use Rattle.elimination.specs.Steps.{plusMultiple, over};
 
 // The number at place (i, j).
 pub fn get(i: usize, j: usize, a: &[f64; 1024]) -> f64
@@ -26,7 +26,7 @@ pub fn put(i: usize, j: usize, x: f64, a: &mut [f64; 1024])
 // Adds m times row k to row i, in the columns from lo up to hi.
 pub fn add_multiple(i: usize, k: usize, m: f64, lo: usize, hi: usize, a: &mut [f64; 1024])
     requires { ⌜ (i < 32) × (k < 32) × (k ≡ i → ⊥) × (lo ≤ hi) × (hi ≤ 32) × (length (now a) ≡ 1024) ⌝ }
-    ensures { λ _. ⌜ Holds (now (a .exit)) (span i lo hi (sumWith m (table32 (now (a .entry)) i) (table32 (now (a .entry)) k)) (table32 (now (a .entry)))) ⌝ }
+    ensures { λ _. ⌜ Holds (now (a .exit)) (span i lo hi (plusMultiple m (table32 (now (a .entry)) i) (table32 (now (a .entry)) k)) (table32 (now (a .entry)))) ⌝ }
 {
     for j in lo..hi {
         let x = get(i, j, a);

@@ -6,14 +6,14 @@ use native.Mathlib.Omega.{arith}
 use borrow.Author.Needs.{needs}
 use Rattle.elimination.specs.Places.{table32}
 use Rattle.elimination.specs.Operators.{between, span}
-use Rattle.elimination.specs.Steps.{sumWith, rowsAdded}
+use Rattle.elimination.specs.Steps.{plusMultiple, rowsAdded}
 use Rattle.elimination.proofs.Loops.{Down, down-begins, down-due, down-else, down-turns, down-ends}
 use Rattle.elimination.proofs.RowSteps.{row-sum-same}
 use Rattle.elimination.proofs.columns.add_to_rows.Statement.{statement}
 use Rattle.elimination.proofs.columns.add_to_rows.Tie as tie
 
 abbrev Inv-loop : tie.InvT-loop
-Inv-loop k lo hi c t b₀ i₀ b i = (i ≤ hi) × Down lo (λ l. between 0 c (sumWith (table32 t l k) (table32 b₀ l) (table32 b₀ k)) (table32 b₀ l)) (table32 b₀) b i
+Inv-loop k lo hi c t b₀ i₀ b i = (i ≤ hi) × Down lo (λ l. between 0 c (plusMultiple (table32 t l k) (table32 b₀ l) (table32 b₀ k)) (table32 b₀ l)) (table32 b₀) b i
 
 abbrev μ-loop : tie.MeasureT-loop
 μ-loop k lo hi c t b₀ i₀ b i = hi - i

@@ -1,4 +1,4 @@
--- `elimination::columns::up` meets its contract: after q upward stages. Assumes nothing.
+-- `elimination::columns::up` meets its contract: after q turns the stages from r - 1 down to r - q are done. Assumes nothing.
 use mathlib.Core.Path.{refl}
 use Prim.Native.Nat.{_≤_, _-_, suc}
 use native.Mathlib.Omega.{arith}

@@ -5,14 +5,14 @@ use native.Mathlib.Omega.{arith}
 use native.Mathlib.Nat.{sub-zero}
 use borrow.Author.Needs.{needs}
 use Rattle.definitions.specs.Numbers.{all}
-use Rattle.elimination.specs.Steps.{sumWithInRange, rowsAddedInRange}
+use Rattle.elimination.specs.Steps.{plusMultipleInRange, rowsAddedInRange}
 use Rattle.elimination.specs.Places.{table32}
 use Rattle.elimination.proofs.Flags.{Gathered, gathered-begins, gathered-turns, gathered-ends}
 use Rattle.elimination.proofs.range.added_in_range.Statement.{statement}
 use Rattle.elimination.proofs.range.added_in_range.Tie as tie
 
 abbrev Inv-loop : tie.InvT-loop
-Inv-loop k lo hi c t b ok₀ i₀ ok i = (i ≤ hi) × Gathered (λ l. all (sumWithInRange (table32 t l k) (table32 b l) (table32 b k)) 0 c) lo i ok
+Inv-loop k lo hi c t b ok₀ i₀ ok i = (i ≤ hi) × Gathered (λ l. all (plusMultipleInRange (table32 t l k) (table32 b l) (table32 b k)) 0 c) lo i ok
 
 abbrev μ-loop : tie.MeasureT-loop
 μ-loop k lo hi c t b ok₀ i₀ ok i = hi - i

@@ -4,14 +4,14 @@ use Prim.Native.Nat.{_≤_, _-_}
 use native.Mathlib.Omega.{arith}
 use borrow.Author.Needs.{needs}
 use Rattle.elimination.specs.Places.{table32}
-use Rattle.elimination.specs.Steps.{sumWithInRange}
+use Rattle.elimination.specs.Steps.{plusMultipleInRange}
 use Rattle.elimination.proofs.Flags.{Gathered, gathered-begins, gathered-turns, gathered-ends}
-use Rattle.elimination.proofs.RowSteps.{sum-with-test}
+use Rattle.elimination.proofs.RowSteps.{plus-multiple-test}
 use Rattle.elimination.proofs.range.multiple_in_range.Statement.{statement}
 use Rattle.elimination.proofs.range.multiple_in_range.Tie as tie
 
 abbrev Inv-loop : tie.InvT-loop
-Inv-loop i k m lo hi a ok₀ j₀ ok j = (j ≤ hi) × Gathered (sumWithInRange m (table32 a i) (table32 a k)) lo j ok
+Inv-loop i k m lo hi a ok₀ j₀ ok j = (j ≤ hi) × Gathered (plusMultipleInRange m (table32 a i) (table32 a k)) lo j ok
 
 abbrev μ-loop : tie.MeasureT-loop
 μ-loop i k m lo hi a ok₀ j₀ ok j = hi - j
@@ -39,7 +39,7 @@ loop-again c =
     let l = c .before .before .before .before in
     let s = l .before .args in
     let f = table32 (s .a .now) in
-    (omega arith, gathered-turns (l .loop .inv .1) (sum-with-test (l .loop .j) (f (s .i)) (c .before .before .get .ensures) (s .m) (f (s .k)) (c .before .get2 .ensures) (c .add-product-in-range .ensures)))
+    (omega arith, gathered-turns (l .loop .inv .1) (plus-multiple-test (l .loop .j) (f (s .i)) (c .before .before .get .ensures) (s .m) (f (s .k)) (c .before .get2 .ensures) (c .add-product-in-range .ensures)))
 
 returns : tie.Need-returns Inv-loop μ-loop
 returns c = gathered-ends (c .before .loop .inv .1) (omega arith) (omega arith)

@@ -4,14 +4,14 @@ use Prim.Native.Nat.{_≤_, _-_}
 use native.Mathlib.Omega.{arith}
 use borrow.Author.Needs.{needs}
 use Rattle.elimination.specs.Places.{table32}
-use Rattle.elimination.specs.Steps.{sumWith}
+use Rattle.elimination.specs.Steps.{plusMultiple}
 use Rattle.elimination.proofs.Loops.{Along, along-begins, along-due, along-else, along-turns, along-ends}
-use Rattle.elimination.proofs.RowSteps.{sum-with}
+use Rattle.elimination.proofs.RowSteps.{plus-multiple}
 use Rattle.elimination.proofs.row.add_multiple.Statement.{statement}
 use Rattle.elimination.proofs.row.add_multiple.Tie as tie
 
 abbrev Inv-loop : tie.InvT-loop
-Inv-loop i k m lo hi a₀ j₀ a j = (j ≤ hi) × Along i lo (sumWith m (table32 a₀ i) (table32 a₀ k)) (table32 a₀) a j
+Inv-loop i k m lo hi a₀ j₀ a j = (j ≤ hi) × Along i lo (plusMultiple m (table32 a₀ i) (table32 a₀ k)) (table32 a₀) a j
 
 abbrev μ-loop : tie.MeasureT-loop
 μ-loop i k m lo hi a₀ j₀ a j = hi - j
@@ -40,7 +40,7 @@ loop-again c =
     let s = l .before .args in
     let f = table32 (s .a .now) in
     let h = l .loop .inv .1 in
-    (omega arith, along-turns h (c .put .ensures) (sum-with (l .loop .j) (f (s .i)) (c .before .before .before .before .get .ensures ∙ along-due h) (s .m) (f (s .k)) (c .before .before .get2 .ensures ∙ along-else h (s .k) (l .loop .j) (l .before .pre .2))))
+    (omega arith, along-turns h (c .put .ensures) (plus-multiple (l .loop .j) (f (s .i)) (c .before .before .before .before .get .ensures ∙ along-due h) (s .m) (f (s .k)) (c .before .before .get2 .ensures ∙ along-else h (s .k) (l .loop .j) (l .before .pre .2))))
 
 returns : tie.Need-returns Inv-loop μ-loop
 returns c = along-ends (c .before .loop .inv .1) (omega arith) (omega arith)

@@ -4,8 +4,6 @@ use lib.Ieee.{nan}
 use Rattle.elimination.proofs.Places.{read-holds}
 use Rattle.elimination.proofs.row.get.Statement.{statement}
 use Rattle.elimination.proofs.row.get.Tie as tie
-use Rattle.elimination.proofs.row.get.Reads as reads
-use Rattle.elimination.proofs.row.get.Lts as lts
 
 mul-result : tie.Need-mul-result
 mul-result c = search needs

@@ -3,8 +3,6 @@ use borrow.Author.Needs.{needs}
 use Rattle.elimination.proofs.Places.{write-holds}
 use Rattle.elimination.proofs.row.put.Statement.{statement}
 use Rattle.elimination.proofs.row.put.Tie as tie
-use Rattle.elimination.proofs.row.put.Reads as reads
-use Rattle.elimination.proofs.row.put.Lts as lts
 
 mul-a : tie.Need-mul-a
 mul-a c = search needs
