@@ -1,0 +1,18 @@
+-- `margins::kept::is_kept` meets its contract. Assumes nothing.
+use borrow.Author.Needs.{needs}
+use lib.Ieee.{ne}
+use Rattle.definitions.specs.Numbers.{isZero}
+use Rattle.margins.specs.Compact.{keeps}
+use Rattle.margins.proofs.Loops.{zero-word}
+use Rattle.margins.proofs.kept.is_kept.Statement.{statement}
+use Rattle.margins.proofs.kept.is_kept.Tie as tie
+
+get-requires : tie.Need-get-requires
+get-requires c κs = search needs
+
+returns : tie.Need-returns
+unfolding keeps isZero ne
+returns c = rw (zero-word, c .get .ensures)
+
+pub is-kept-spec : {M : Type 1} → statement M
+is-kept-spec = tie.close (tie.spec get-requires returns)

@@ -1,0 +1,57 @@
+-- `margins::range::after_in_range` meets its contract: at column j the additions before it are tested. Assumes nothing.
+use mathlib.Core.Path.{refl}
+use Prim.Native.Nat.{_≤_, _-_, suc}
+use native.Mathlib.Numerals.{add-one}
+use native.Mathlib.Omega.{arith}
+use borrow.Author.Needs.{needs}
+use Rattle.elimination.specs.Places.{table32}
+use Rattle.elimination.proofs.Flags.{Summed, SumGathered, summed-begins, summed-turns, sum-gathered-begins, sum-gathered-turns, sum-gathered-ends}
+use Rattle.margins.proofs.range.after_in_range.Statement.{statement}
+use Rattle.margins.proofs.range.after_in_range.Tie as tie
+
+abbrev Inv-loop : tie.InvT-loop
+Inv-loop n i start t ok₀ sum₀ j₀ ok sum j = (j ≤ n) × Summed start (table32 t i) (suc i) j sum × SumGathered start (table32 t i) (suc i) j ok
+
+abbrev μ-loop : tie.MeasureT-loop
+μ-loop n i start t ok₀ sum₀ j₀ ok sum j = n - j
+
+add-j : tie.Need-add-j Inv-loop μ-loop
+add-j c = search needs
+
+loop-holds : tie.Need-loop-holds Inv-loop μ-loop
+loop-holds c = (search needs, summed-begins (add-one (c .args .i)) refl, sum-gathered-begins (add-one (c .args .i)))
+
+get-requires : tie.Need-get-requires Inv-loop μ-loop
+get-requires c κs = search needs
+
+add-in-range-requires : tie.Need-add-in-range-requires Inv-loop μ-loop
+add-in-range-requires c κs = search needs
+
+add-j-2 : tie.Need-add-j-2 Inv-loop μ-loop
+add-j-2 c = search needs
+
+loop-less : tie.Need-loop-less Inv-loop μ-loop
+loop-less c = search needs
+
+loop-again : tie.Need-loop-again Inv-loop μ-loop
+loop-again c =
+    let l = c .before .before .before .loop in
+    (omega arith, summed-turns (l .inv .1) (c .before .get .ensures), sum-gathered-turns (l .inv .1) (l .inv .2) (c .add-in-range .ensures) (c .before .get .ensures))
+
+returns : tie.Need-returns Inv-loop μ-loop
+returns c = sum-gathered-ends (c .before .loop .inv .2) (omega arith) (omega arith)
+
+pub after-in-range-spec : {M : Type 1} → statement M
+after-in-range-spec =
+    tie.close
+    (tie.spec
+    Inv-loop
+    μ-loop
+    add-j
+    loop-holds
+    get-requires
+    add-in-range-requires
+    add-j-2
+    loop-less
+    loop-again
+    returns)

@@ -1,0 +1,42 @@
+-- `margins::ratios::sum_after` meets its contract: at column j the sizes before it are added. Assumes nothing.
+use mathlib.Core.Path.{refl}
+use Prim.Native.Nat.{_≤_, _-_, suc}
+use native.Mathlib.Numerals.{add-one}
+use native.Mathlib.Omega.{arith}
+use borrow.Author.Needs.{needs}
+use Rattle.elimination.specs.Places.{table32}
+use Rattle.elimination.proofs.Flags.{Summed, summed-begins, summed-turns, summed-ends}
+use Rattle.margins.proofs.ratios.sum_after.Statement.{statement}
+use Rattle.margins.proofs.ratios.sum_after.Tie as tie
+
+abbrev Inv-loop : tie.InvT-loop
+Inv-loop n i start t sum₀ j₀ sum j = (j ≤ n) × Summed start (table32 t i) (suc i) j sum
+
+abbrev μ-loop : tie.MeasureT-loop
+μ-loop n i start t sum₀ j₀ sum j = n - j
+
+add-j : tie.Need-add-j Inv-loop μ-loop
+add-j c = search needs
+
+loop-holds : tie.Need-loop-holds Inv-loop μ-loop
+loop-holds c = (search needs, summed-begins (add-one (c .args .i)) refl)
+
+get-requires : tie.Need-get-requires Inv-loop μ-loop
+get-requires c κs = search needs
+
+add-j-2 : tie.Need-add-j-2 Inv-loop μ-loop
+add-j-2 c = search needs
+
+loop-less : tie.Need-loop-less Inv-loop μ-loop
+loop-less c = search needs
+
+loop-again : tie.Need-loop-again Inv-loop μ-loop
+loop-again c = (omega arith, summed-turns (c .before .before .loop .inv .1) (c .get .ensures))
+
+returns : tie.Need-returns Inv-loop μ-loop
+returns c = summed-ends (c .before .loop .inv .1) (omega arith) (omega arith)
+
+pub sum-after-spec : {M : Type 1} → statement M
+sum-after-spec =
+    tie.close
+    (tie.spec Inv-loop μ-loop add-j loop-holds get-requires add-j-2 loop-less loop-again returns)

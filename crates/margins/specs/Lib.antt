@@ -1,0 +1,6 @@
+pub mod Vectors
+pub mod Ratios
+pub mod Compact
+pub mod Range
+pub mod Join
+pub mod Contracts
