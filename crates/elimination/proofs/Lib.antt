@@ -1,4 +1,4 @@
--- Laws that other crates cite: the equations of the steps, what a zero multiplier does, that a column looks at no other, systems that agree;
+-- Laws that other crates cite: what a zero multiplier does, that a column looks at no other, systems that agree;
 pub mod ZeroMultiplier
 pub mod OneColumn
 pub mod Same
@@ -10,12 +10,12 @@ pub mod Loops
 pub mod Flags
 pub mod Exchange
 -- What the proofs of this crate's functions rest on.
-mod RowSteps
+pub mod RowSteps
 mod Stages
 mod RangeLaws
 mod DownwardLaws
 mod ColumnLaws
 mod SharedLaws
-mod ColumnSteps
+pub mod ColumnSteps
 mod ColumnTests
 mod EngineLaws

@@ -3,11 +3,13 @@ use Prim.Native.Nat.{ℕ, zero, suc, _+_, _*_, _<_}
 use native.Mathlib.Nat.{suc-mul, zero-mul, mul-le-mul-right}
 use native.Mathlib.Numerals.{add-one}
 use native.Mathlib.Omega.{arith}
-use mathlib.Core.List.{[], _∷_, _++_}
-use mathlib.Core.Path.{_≡_, refl, sym, ap, _∙_}
+use mathlib.Core.List.{List, [], _∷_, _++_}
+use mathlib.Core.Path.{_≡_, refl, sym, ap, _∙_, ap₂}
 use lib.ListN.{length, getD, length-append, List·getD-append}
 use lib.Seq.{getD-at, getD-append-add}
 use native.Mathlib.Decide.{decLt}
+use lib.Ieee.{Float, nan}
+use Rattle.definitions.specs.Sheet.{place}
 use Rattle.definitions.specs.Tables.{list, rows, stored, storedTable}
 
 module _ {A : Type 0} where
@@ -50,6 +52,18 @@ module _ {A : Type 0} where
   rows-at f other n zero i j h k = absurd (omega arith)
   rows-at f other n (suc m) i j h k = rows-more f other n m i j h k (λ l. rows-at f other n m i j l k) (decLt i m)
 
+  -- Equal entries make equal rows.
+  list-same : (f g : ℕ → A) (n : ℕ) → ((j : ℕ) → j < n → f j ≡ g j) → list f n ≡ list g n
+  unfolding list
+  list-same f g zero e = refl
+  list-same f g (suc n) e = ap₂ (λ xs x. xs ++ (x ∷ [])) (list-same f g n (λ j l. e j (omega arith))) (e n (omega arith))
+
+  pub rows-same : (f g : ℕ → ℕ → A) (n m : ℕ) → ((i j : ℕ) → i < m → j < n → f i j ≡ g i j) → rows f n m ≡ rows g n m
+  unfolding rows
+  rows-same f g n zero e = refl
+  rows-same f g n (suc m) e =
+      ap₂ (λ xs ys. xs ++ ys) (rows-same f g n m (λ i j l k. e i j (omega arith) k)) (list-same (f m) (g m) n (λ j l. e m j (omega arith) l))
+
   pub stored-at : (other : A) (n : ℕ) (f : ℕ → A) (i : ℕ) → i < n → stored other n f i ≡ f i
   unfolding stored
   stored-at other n f i h = list-at f other n i h
@@ -58,3 +72,9 @@ pub storedTable-at : {A : Type 0} (other : A) (n : ℕ) (f : ℕ → ℕ → A) 
 unfolding storedTable
 storedTable-at other n f i j hi hj =
     ap (λ g. g j) (stored-at (λ j. other) n (λ i. stored other n (f i)) i hi) ∙ stored-at other n (f i) j hj
+
+-- An area that starts with a table has each entry at its place.
+pub place-of-rows : (f : ℕ → ℕ → Float) (n : ℕ) (rest : List Float) (i j : ℕ) → i < n → j < n → place n (rows f n n ++ rest) i j ≡ f i j
+place-of-rows f n rest i j hi hj =
+    let inside : i * n + j < length (rows f n n) = omega (arith, length-rows f n n, suc-mul i n, mul-le-mul-right n hi) in
+    List·getD-append (rows f n n) rest nan (i * n + j) inside ∙ rows-at f nan n n i j hi hj

@@ -1,18 +1,18 @@
 -- The lines of a table look only at its n × n entries, so the text for an answer area is the definitions' text.
 use mathlib.Core.Path.{_≡_, refl, sym, ap, ap₂, _∙_}
-use Prim.Native.Nat.{ℕ, zero, suc, _+_, _*_, _<_}
+use Prim.Native.Nat.{ℕ, zero, suc, _+_, _<_}
 use native.Mathlib.Omega.{arith}
 use mathlib.Core.List.{List, _++_}
-use lib.ListN.{length, drop, List·getD-append}
-use lib.Ieee.{Float, nan}
+use lib.ListN.{length, drop}
+use lib.Ieee.{Float}
 use Rattle.definitions.specs.Tables.{rows}
 use Rattle.definitions.specs.Sheet.{place}
 use Rattle.definitions.specs.Table.{entry}
 use Rattle.definitions.specs.Questions.{Asked, pass, refuse, tableQuestions}
 use Rattle.definitions.specs.Services.{given, refused, answer, filled, tableAnswer, table, tableArea}
 use Rattle.definitions.specs.Dwell.{refusedLine, secondsLine, entryLine, rowLines, tableLines, tableText}
-use Rattle.steps.proofs.Tables.{length-rows, rows-at}
-use Rattle.text.proofs.Lines.{row-none, row-grows, table-none, table-grows, row-ends}
+use Rattle.steps.proofs.Tables.{place-of-rows}
+use Rattle.text.proofs.Lines.{row-none, row-grows, table-none, table-grows}
 
 -- Two tables that agree where the lines look have the same lines.
 module _ (x y : ℕ → ℕ → Float) where
@@ -31,11 +31,6 @@ module _ (x y : ℕ → ℕ → Float) where
       ∙ sym (table-grows y n m)
 
 -- An area that starts with a table: its text is the table's, whatever stands after the table.
-pub place-of-rows : (f : ℕ → ℕ → Float) (n : ℕ) (rest : List Float) (i j : ℕ) → i < n → j < n → place n (rows f n n ++ rest) i j ≡ f i j
-place-of-rows f n rest i j h k =
-    let inside : i * n + j < length (rows f n n) = omega (arith, length-rows f n n, row-ends i n h) in
-    List·getD-append (rows f n n) rest nan (i * n + j) inside ∙ rows-at f nan n n i j h k
-
 pub lines-of-rows : (f : ℕ → ℕ → Float) (n : ℕ) (rest : List Float) → tableLines (place n (rows f n n ++ rest)) n n ≡ tableLines f n n
 lines-of-rows f n rest = same-table (place n (rows f n n ++ rest)) f n n (place-of-rows f n rest)
 

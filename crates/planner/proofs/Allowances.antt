@@ -1,0 +1,20 @@
+-- The allowance by products.
+use mathlib.Core.Path.{_≡_}
+use Prim.Native.Nat.{ℕ, _*_, _^_, _≤_}
+use native.Mathlib.Nat.{pow-suc, pow-zero, one-mul, mul-le-mul}
+use borrow.Author.Tests.{ne-eqb}
+use Rattle.definitions.specs.Sheet.{allowance}
+
+cube : (n : ℕ) → n ^ 3 ≡ n * n * n
+cube n = rw (pow-suc, pow-suc, pow-suc, pow-zero, one-mul)
+
+pub first-allowance : (n : ℕ) → 4 * (n * n * n) ≡ allowance 1 n
+unfolding allowance
+first-allowance n = rw (cube n)
+
+pub second-allowance : (reading n : ℕ) → (reading ≡ 1 → ⊥) → 12 * (n * n * n) ≡ allowance reading n
+unfolding allowance
+second-allowance reading n o = rw (ne-eqb reading 1 o, cube n)
+
+pub cube-small : {n : ℕ} → n ≤ 32 → n * n * n ≤ 32768
+cube-small {n} h = mul-le-mul (mul-le-mul h h) h

@@ -1,0 +1,7 @@
+pub mod Writing
+pub mod SameMargins
+pub mod Loaded
+pub mod Stepped
+pub mod Allowances
+pub mod Asked
+pub mod Services

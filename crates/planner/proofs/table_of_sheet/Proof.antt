@@ -1,0 +1,48 @@
+-- `planner::table_of_sheet` meets its contract. Assumes nothing.
+use mathlib.Core.Path.{refl}
+use native.Mathlib.Omega.{arith}
+use borrow.Author.Needs.{needs}
+use denote.Ref.{now}
+use lib.ListN.{length}
+use Prim.Native.Nat.{_*_, _≤_}
+use Rattle.sheet.specs.Input.{Input}
+use Rattle.sheet.proofs.Input.{table-input-passed}
+use Rattle.definitions.specs.Accuracy.{Binary64}
+use Rattle.planner.proofs.Services.{table-given, table-out-of-range}
+use Rattle.planner.proofs.table_of_sheet.Statement.{statement}
+use Rattle.planner.proofs.table_of_sheet.Tie as tie
+
+-- What questions 1 to 9 leave.
+input : (s : tie.Start) → Input s.args.reading s.args.n (now s.args.sheet) × (s.args.n * s.args.n ≤ length (now s.args.answer))
+input s = table-input-passed s.args.reading s.args.n (now s.args.sheet) (length (now s.args.answer)) s.pre
+
+steps-requires : tie.Need-steps-requires
+steps-requires c κs = (input (c .before .before .before) .0 .square, refl)
+
+write-requires : tie.Need-write-requires
+write-requires c κs =
+    let p = input (c .before .before .before .before .before .before .before) in
+    (omega (arith, p .0 .square .few), omega (arith, p .1), c .before .before .before .steps .ensures .long)
+
+allowance-of-requires : tie.Need-allowance-of-requires
+allowance-of-requires c κs = input (c .before .before .before .before .before .before .before .before .before .before) .0 .square .few
+
+same-length : tie.Need-same-length
+same-length c = search needs
+
+returns : tie.Need-returns
+unfolding Binary64
+returns c =
+    let s = c .before .before .before .before .before .before .before .before .before .before .before in
+    let known = c .before .before .before .before .before .before .before .before .before .before .shared-slice-known .given in
+    table-given s.args.reading s.args.n (now s.args.sheet) (now s.args.answer) s.pre (c .before .before .before .before .before .before .before .steps .ensures) known (c .before .before .before .before .before .before .if1 .taken) (c .before .before .before .write .ensures) (c .allowance-of .ensures)
+
+returns-2 : tie.Need-returns-2
+returns-2 c =
+    let s = c .before .before .before .before .before in
+    table-out-of-range s.args.reading s.args.n (now s.args.sheet) (now s.args.answer) s.pre (c .before .steps .ensures) (c .if1 .left)
+
+pub table-of-sheet-spec : {M : Type 1} → statement M
+table-of-sheet-spec =
+    tie.close
+    (tie.spec steps-requires write-requires allowance-of-requires same-length returns returns-2)

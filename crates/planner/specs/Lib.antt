@@ -1,0 +1,4 @@
+pub mod Loading
+pub mod Readings
+pub mod Answers
+pub mod Promises

@@ -1,0 +1,28 @@
+-- What the two services promise of every call, refused calls too.
+use mathlib.Core.Path.{_≡_}
+use Prim.Native.Nat.{ℕ}
+use mathlib.Core.List.{List}
+use lib.ListN.{length}
+use lib.Ieee.{Float}
+use Rattle.definitions.specs.Sheet.{place, allowance}
+use Rattle.definitions.specs.Table.{entry}
+use Rattle.definitions.specs.Matrix.{matrix, everyStage}
+use Rattle.definitions.specs.Questions.{pass, tableQuestions, entryQuestions}
+use Rattle.definitions.specs.Accuracy.{Accurate}
+use Rattle.definitions.specs.Services.{tableAnswer, tableArea, entryAnswer}
+use Rattle.planner.specs.declared.Table.{Table}
+use Rattle.planner.specs.declared.Entry.{Entry}
+use Rattle.planner.specs.Answers.{tableGiven, entryGiven}
+
+-- The whole table: the answer r, each place of the answer area before and after, and for an accepted sheet demand 3 of the numbers in the area.
+pub record TableDone (reading n : ℕ) (sheet before after : List Float) (r : Table) : Type 0 where
+  pub answered : tableGiven r ≡ tableAnswer reading n sheet (length before)
+  pub area : after ≡ tableArea reading n sheet before
+  pub accurate : tableQuestions reading n sheet (length before) ≡ pass
+      → Accurate n everyStage (allowance reading n) (matrix reading n sheet) (place n after)
+
+-- One entry: the answer r, and for an accepted call demand 3 of the table whose entry it is.
+pub record EntryDone (reading n : ℕ) (sheet : List Float) (i j : ℕ) (r : Entry) : Type 0 where
+  pub answered : entryGiven r ≡ entryAnswer reading n sheet i j
+  pub accurate : entryQuestions reading n sheet i j ≡ pass
+      → Accurate n everyStage (allowance reading n) (matrix reading n sheet) (entry reading n sheet)

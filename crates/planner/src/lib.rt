@@ -1,0 +1,124 @@
+// The public services: the whole table with its allowance, and one entry. Neither has a `requires`:
+// the questions of document 01 are asked in its order, and a no ends the call with no place changed.
+mod load;
+mod readings;
+mod write;
+
+ghost use mathlib.Core.Path.{_≡_};
+ghost use Prim.Native.Nat.{_≤_};
+ghost use lib.ListN.{length};
+ghost use Rattle.definitions.specs.Sheet.{allowance};
+ghost use Rattle.definitions.specs.Questions.{pass, tableInput, entryInput};
+ghost use Rattle.planner.specs.Promises.{TableDone, EntryDone};
+use elimination::row;
+use sheet::Asked;
+
+// The answer of the whole table: its allowance, or a refusal.
+pub enum Table {
+    Allowed {
+        allowance: usize,
+    },
+    Refused {
+        number: usize,
+        row: usize,
+        column: usize,
+    },
+}
+
+// The answer of one entry: a number of seconds, or a refusal.
+pub enum Entry {
+    Seconds {
+        value: f64,
+    },
+    Refused {
+        number: usize,
+        row: usize,
+        column: usize,
+    },
+}
+
+// 4n³ for reading 1, 12n³ for reading 2.
+fn allowance_of(reading: usize, n: usize) -> usize
+    requires { ⌜ n ≤ 32 ⌝ }
+    ensures { λ r. ⌜ r ≡ allowance reading n ⌝ }
+{
+    if reading == 1 {
+        return 4 * (n * n * n);
+    }
+    12 * (n * n * n)
+}
+
+// The whole table of a sheet that passed questions 1 to 9. Nothing is written before question 10 passes too.
+fn table_of_sheet(reading: usize, n: usize, sheet: &[f64], answer: &mut [f64]) -> Table
+    requires { ⌜ tableInput reading n (now sheet) (length (now answer)) ≡ pass ⌝ }
+    ensures { λ r. ⌜ TableDone reading n (now (sheet .entry)) (now (answer .entry)) (now (answer .exit)) r ⌝ }
+{
+    let mut x = [0.0; 1024];
+    if readings::steps(reading, n, sheet, &mut x) {
+        write::write(n, &x, answer);
+        return Table::Allowed {
+            allowance: allowance_of(reading, n),
+        };
+    }
+    Table::Refused {
+        number: 10,
+        row: 0,
+        column: 0,
+    }
+}
+
+// The whole table, row by row in the first n × n places of the answer area.
+pub fn whole_table(reading: usize, n: usize, sheet: &[f64], answer: &mut [f64]) -> Table
+    ensures { λ r. ⌜ TableDone reading n (now (sheet .entry)) (now (answer .entry)) (now (answer .exit)) r ⌝ }
+{
+    let asked = sheet::table_input(reading, n, sheet, answer.len());
+    match asked {
+        Asked::Pass => table_of_sheet(reading, n, sheet, answer),
+        Asked::Refuse {
+            number,
+            row,
+            column,
+        } => Table::Refused {
+            number,
+            row,
+            column,
+        },
+    }
+}
+
+// Entry (i, j), counted from 1, of a sheet that passed questions 1 to 9.
+fn entry_of_sheet(reading: usize, n: usize, sheet: &[f64], i: usize, j: usize) -> Entry
+    requires { ⌜ entryInput reading n (now sheet) i j ≡ pass ⌝ }
+    ensures { λ r. ⌜ EntryDone reading n (now (sheet .entry)) i j r ⌝ }
+{
+    let mut table = [0.0; 1024];
+    if readings::steps(reading, n, sheet, &mut table) {
+        return Entry::Seconds {
+            value: row::get(i - 1, j - 1, &table),
+        };
+    }
+    Entry::Refused {
+        number: 10,
+        row: 0,
+        column: 0,
+    }
+}
+
+// One entry: the seconds that a request entering at stage i spends at stage j, counted from 1.
+pub fn one_entry(reading: usize, n: usize, sheet: &[f64], i: usize, j: usize) -> Entry
+    ensures { λ r. ⌜ EntryDone reading n (now (sheet .entry)) i j r ⌝ }
+{
+    let asked = sheet::entry_input(reading, n, sheet, i, j);
+    match asked {
+        Asked::Pass => entry_of_sheet(reading, n, sheet, i, j),
+        Asked::Refuse {
+            number,
+            row,
+            column,
+        } => Entry::Refused {
+            number,
+            row,
+            column,
+        },
+    }
+}
