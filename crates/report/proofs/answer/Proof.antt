@@ -1,0 +1,89 @@
+-- `report::answer` meets its contract: the text of the file's sheet, or the line of the refusal with which its reading ends. Assumes nothing.
+use borrow.Author.Needs.{needs}
+use mathlib.Core.Path.{refl}
+use native.Mathlib.Omega.{arith}
+use lib.ListN.{length-take}
+use Rattle.report.proofs.Reporting.{reported, places, stages, sheet-text, file-refused}
+use Rattle.report.proofs.answer.Statement.{statement}
+use Rattle.report.proofs.answer.Tie as tie
+
+slice-aggregate-read-numbers : tie.Need-slice-aggregate-read-numbers
+slice-aggregate-read-numbers c = search needs
+
+read-numbers-requires : tie.Need-read-numbers-requires
+read-numbers-requires c κs = search needs
+
+enum-known-loaded : tie.Need-enum-known-loaded
+enum-known-loaded c = search needs
+
+mul-places : tie.Need-mul-places
+mul-places c =
+    let told = c .before in
+    let read = told .before .before .before in
+    let start = read .before .before .before .before in
+    record { fits = omega (arith, places (start .args .bytes .now) _ _ refl (read .read-numbers .ensures .0) (read .read-numbers .ensures .1) (told .loaded .given .1)) }
+
+array-share-prefix-area : tie.Need-array-share-prefix-area
+array-share-prefix-area c =
+    let told = c .before in
+    let read = told .before .before .before in
+    let start = read .before .before .before .before in
+    omega (arith, places (start .args .bytes .now) _ _ refl (read .read-numbers .ensures .0) (read .read-numbers .ensures .1) (told .loaded .given .1))
+
+slice-aggregate-table-text : tie.Need-slice-aggregate-table-text
+slice-aggregate-table-text c =
+    let told = c .before .before in
+    let read = told .before .before .before in
+    let start = read .before .before .before .before in
+    simp length-take (omega (arith, places (start .args .bytes .now) _ _ refl (read .read-numbers .ensures .0) (read .read-numbers .ensures .1) (told .loaded .given .1)))
+
+table-text-requires : tie.Need-table-text-requires
+table-text-requires c κs =
+    let told = c .before .before .before in
+    let read = told .before .before .before in
+    let start = read .before .before .before .before in
+    (stages (start .args .bytes .now) _ _ refl (read .read-numbers .ensures .0) (read .read-numbers .ensures .1) (told .loaded .given .1), start .pre)
+
+enum-known-loaded-2 : tie.Need-enum-known-loaded-2
+enum-known-loaded-2 c = search needs
+
+refused-text-requires : tie.Need-refused-text-requires
+refused-text-requires c κs = search needs
+
+same-length : tie.Need-same-length
+same-length c = search needs
+
+returns : tie.Need-returns
+returns c =
+    let told = c .before .before .before .before .before .before in
+    let read = told .before .before .before in
+    let start = read .before .before .before .before in
+    reported (sheet-text (start .args .bytes .now) _ _ refl (read .read-numbers .ensures .0) (read .read-numbers .ensures .1) (told .loaded .given .1)) (omega arith) (c .before .before .table-text .ensures)
+
+same-length-2 : tie.Need-same-length-2
+same-length-2 c = search needs
+
+returns-2 : tie.Need-returns-2
+returns-2 c =
+    let told = c .before .before .before .before .before in
+    let read = told .before .before .before in
+    let start = read .before .before .before .before in
+    reported (file-refused (start .args .bytes .now) (read .read-numbers .ensures .0) (told .loaded2 .given .1)) (omega arith) (c .before .before .refused-text .ensures)
+
+pub answer-spec : {M : Type 1} → statement M
+answer-spec =
+    tie.close
+    (tie.spec
+    slice-aggregate-read-numbers
+    read-numbers-requires
+    enum-known-loaded
+    mul-places
+    array-share-prefix-area
+    slice-aggregate-table-text
+    table-text-requires
+    enum-known-loaded-2
+    refused-text-requires
+    same-length
+    returns
+    same-length-2
+    returns-2)

@@ -1,0 +1,47 @@
+// The text that dwell prints for the bytes of a sheet file, made as a whole in a lent buffer.
+ghost use Prim.Native.Nat.{_≤_};
+ghost use lib.ListN.{length};
+ghost use Rattle.definitions.specs.Services.{tableAnswer};
+ghost use Rattle.definitions.specs.Dwell.{tableText};
+ghost use Rattle.text.specs.Pasted.{AtStart};
+ghost use Rattle.report.specs.Reported.{Reported};
+use file::Loaded;
+use planner::Table;
+
+// The text for a sheet: its table is made in an area of its own.
+fn table_text(reading: usize, n: usize, sheet: &[f64], out: &mut [u8]) -> usize
+    requires { ⌜ (n ≤ 32) × (32768 ≤ length (now out)) ⌝ }
+    ensures { λ r. ⌜ AtStart (tableText reading n (now (sheet .entry)) (tableAnswer reading n (now (sheet .entry)) 1024)) (now (out .entry)) (now (out .exit)) r ⌝ }
+{
+    let mut area = [0.0f64; 1024];
+    let table = planner::whole_table(reading, n, sheet, &mut area);
+    match table {
+        Table::Allowed { allowance } => text::seconds_text(n, allowance, &area, out),
+        Table::Refused {
+            number,
+            row,
+            column,
+        } => text::refused_text(number, row, column, out),
+    }
+}
+
+// The text for the bytes of a file, at the start of `out`; later bytes stay as they were. Returns
+// the length of the text.
+pub fn answer(bytes: &[u8], out: &mut [u8]) -> usize
+    requires { ⌜ 32768 ≤ length (now out) ⌝ }
+    ensures { λ r. ⌜ Reported (now (bytes .entry)) (now (out .entry)) (now (out .exit)) r ⌝ }
+{
+    let mut area = [0.0f64; 1024];
+    let loaded = file::read_numbers(bytes, &mut area);
+    match loaded {
+        Loaded::Sheet { reading, n } => {
+            let places = n * n;
+            table_text(reading, n, &area[..places], out)
+        }
+        Loaded::Refused {
+            number,
+            row,
+            column,
+        } => text::refused_text(number, row, column, out),
+    }
+}
