@@ -902,7 +902,7 @@ class Examples(ToolTest):
 
     def test_walk_through(self) -> None:
         """Each command of the walk-through prints what stands below it."""
-        pages = [page for page in (ROOT / "README-tools.md", ROOT / "README.md") if page.exists()]
+        pages = [ROOT / "README.md"]
         found = [re.findall(r"^```\n(\$ .*?)^```", page.read_text(), re.MULTILINE | re.DOTALL) for page in pages]
         blocks = [block for of_page in found for block in of_page if "tools/sheet.py" in block]
         self.assertTrue(blocks)
