@@ -10,8 +10,9 @@ use Rattle.exact.specs.Near.{Near}
 use Rattle.exact.specs.Systems.{AllOut, diag}
 use Rattle.exact.specs.Elimination.{pivot}
 use Rattle.exact.specs.Run.{Step, SharedSteps, levelCount}
-use Rattle.exact.proofs.Near.{near-sym, near-grow}
-use Rattle.exact.proofs.Sums.{first, later}
+use Rattle.exact.specs.Sums.{sum as total}
+use Rattle.exact.proofs.Near.{near-sym, near-grow, near-zero}
+use Rattle.exact.proofs.Sums.{first, later, zero-sum, zero-term}
 use Rattle.exact.proofs.Run.{level-out}
 use Rattle.definitions.specs.Numbers.{_⊕_, _⊗_, divInRange, addProductInRange, sum, sumInRange, units}
 use Rattle.definitions.specs.LeavingRates.{System, downward, eliminate, p, m↓, sharedBefore, shared}
@@ -35,7 +36,7 @@ module _ (r : ℕ) (at : ℕ → System) (k m : ℕ) (e : suc (k + m) ≡ r) (g 
   row-good : (j : ℕ) → In (suc k) m j → Good (at k .t k j)
   row-good j l = g .size k j first (later l) (omega arith)
 
-  -- The pivot's two laws: good, and a rounding for each addition. So it is zero where all its terms are, and only there.
+  -- The pivot's laws: good, a rounding for each addition, and zero where all its terms are and only there.
   module _ (t : T (sumInRange (at k .s k) (at k .t k) (suc k) m)) where
     pub pivot-good : Good (p r at k)
     pivot-good =
@@ -44,6 +45,18 @@ module _ (r : ℕ) (at : ℕ → System) (k m : ℕ) (e : suc (k + m) ≡ r) (g 
     pub pivot-near : (b : ℕ → ℕ) → Near m (units (p r at k)) (pivot k m (inUnits (at k) b))
     unfolding pivot diag
     pivot-near b = rw (pivot-sum r at k m e) (sum-near (at k .s k) (at k .t k) (suc k) (g .exit k first) m row-good t)
+
+    pub pivot-of-zeros : units (at k .s k) ≡ 0 → ((j : ℕ) → In (suc k) m j → units (at k .t k j) ≡ 0) → units (p r at k) ≡ 0
+    unfolding pivot diag
+    pivot-of-zeros z f =
+        let terms = zero-sum (λ j. units (at k .t k j)) (suc k) m f in
+        near-zero (pivot-near (λ i. zero)) (omega arith)
+
+    pub zero-pivot : units (p r at k) ≡ 0 → (units (at k .s k) ≡ 0) × ((j : ℕ) → In (suc k) m j → units (at k .t k j) ≡ 0)
+    unfolding pivot diag
+    zero-pivot z =
+        let whole : units (at k .s k) + total (λ j. units (at k .t k j)) (suc k) m ≡ 0 = near-zero (near-sym (pivot-near (λ i. zero))) z in
+        (omega arith, λ j l. zero-term (λ j. units (at k .t k j)) (suc k) m j (omega arith) l)
 
   module _ (s : StageRange r at k m) where
     -- One place: x of row i becomes x + m·y, where y is its column's number in row k.
