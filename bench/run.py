@@ -1,0 +1,479 @@
+#!/usr/bin/env python3
+"""Times and errors of the proved table beside plain C and LAPACK, in one run on one machine.
+
+    python3 bench/run.py [--quick] [--no-errors] [--sizes 2,4,8]
+
+builds the proved library (`rt staticlib hosts`), bench/steps.c and bench/time.c into target/bench, checks
+that all give the same bits and decisions, and prints three tables.  Standard library only; nothing is
+installed.  Exit status 1 if bits or decisions differ, or an error is above its allowance.
+"""
+from __future__ import annotations
+
+import argparse
+import math
+import os
+import random
+import shutil
+import struct
+import subprocess
+import sys
+from dataclasses import dataclass
+from fractions import Fraction
+from pathlib import Path
+from typing import Callable, Iterable, Optional, Sequence
+
+sys.path.insert(0, str(Path(__file__).resolve().parent))
+import sheets  # noqa: E402  the path comes first
+from sheets import Sheet, reference  # noqa: E402
+
+ROOT = Path(__file__).resolve().parent.parent
+BUILD = ROOT / "target" / "bench"
+ARCHIVE = ROOT / "target" / "staticlib" / "libhosts.a"
+SIZES = [2, 3, 4, 8, 12, 16, 24, 32]
+COMMON = ["-std=c11", "-Wall", "-Wextra", "-ffp-contract=off"]
+VARIANTS = {"plain_O3": ["-O3"], "plain_O2": ["-O2"], "checked_O3": ["-O3", "-DCHECKED"],
+            "checked_O2": ["-O2", "-DCHECKED"], "plain_native": ["-O3", "-march=native"]}
+OURS, UNCHECKED, CHECKED, LAPACK = "yulanbowls", "C -O3", "checked C -O3", "LAPACK"
+DECIDES = ["yulanbowls", "checked C -O3", "checked C -O2"]
+UNIT = 2.0 ** -53
+
+failures: list[str] = []
+
+
+def check(holds: bool, what: str) -> None:
+    """Notes what does not hold; the run goes on and ends with status 1."""
+    if not holds:
+        failures.append(what)
+        print(f"FAILED: {what}", flush=True)
+
+
+# ==== Building ====
+
+def run(command: Sequence[object], **options: object) -> subprocess.CompletedProcess:
+    """Runs a command; one that fails ends the program with what it wrote."""
+    done = subprocess.run([str(word) for word in command], stdout=subprocess.PIPE, stderr=subprocess.STDOUT,
+                          **options)
+    if done.returncode != 0:
+        sys.stdout.buffer.write(done.stdout)
+        sys.exit(f"bench: this command failed: {' '.join(str(word) for word in command)}")
+    return done
+
+
+def has_openblas() -> bool:
+    """Whether a program links against OpenBLAS here."""
+    test = "void dgetrf_(void); int main(void) { dgetrf_(); return 0; }"
+    return subprocess.run(["cc", "-x", "c", "-", "-lopenblas", "-o", str(BUILD / "linked")], input=test.encode(),
+                          stdout=subprocess.DEVNULL, stderr=subprocess.DEVNULL).returncode == 0
+
+
+def build_library() -> None:
+    """The proved library; without the toolchain one that was built before serves."""
+    if shutil.which("rt"):
+        run(["rt", "staticlib", "hosts"], cwd=ROOT)
+    elif not ARCHIVE.exists():
+        sys.exit(f"bench: no rt on the path and no {ARCHIVE}")
+
+
+def build() -> Path:
+    """The program of time.c with every candidate in it."""
+    BUILD.mkdir(parents=True, exist_ok=True)
+    build_library()
+    objects = []
+    for suffix, flags in VARIANTS.items():
+        objects.append(BUILD / f"steps_{suffix}.o")
+        run(["cc", *COMMON, *flags, f"-DSUFFIX={suffix}", "-c", ROOT / "bench" / "steps.c", "-o", objects[-1]])
+    lapack = has_openblas()
+    if not lapack:
+        print("No OpenBLAS here, so LAPACK's rows are left out. On Debian this installs it:\n"
+              "    apt-get install libopenblas-dev\n")
+    program = BUILD / "time"
+    run(["cc", *COMMON, "-O2", *(["-DLAPACK"] if lapack else []), "-I", ROOT / "include",
+         ROOT / "bench" / "time.c", *objects, ARCHIVE, *(["-lopenblas"] if lapack else []), "-o", program])
+    return program
+
+
+# ==== Running the candidates ====
+
+@dataclass
+class Group:
+    """Sheets of one reading and size that are run together; without batches they are not timed."""
+    reading: int
+    n: int
+    sheets: list[Sheet]
+    batches: int = 0
+    matrices: Optional[list[list[float]]] = None    # A column by column, for LAPACK
+
+    def words(self) -> bytes:
+        """What time.c reads."""
+        matrices = self.matrices or [nearest_matrix(self.reading, self.n, sheet) for sheet in self.sheets]
+        numbers = [x for sheet in [*self.sheets, *matrices] for x in sheet]
+        return struct.pack("<4Q", self.reading, self.n, len(self.sheets), self.batches) + \
+            struct.pack(f"<{len(numbers)}d", *numbers)
+
+
+@dataclass
+class Result:
+    """What one candidate did with a group: nanoseconds for a table, and for each sheet 0 or the refusal's
+    number with the answer row by row."""
+    nanoseconds: float
+    answers: list[tuple[int, list[float]]]
+
+
+def nearest_matrix(reading: int, n: int, sheet: Sheet) -> list[float]:
+    """A column by column, each entry the binary64 number nearest to the exact one."""
+    a = short_matrix(reading, n, sheet)
+    return [float(a[i][j]) for j in range(n) for i in range(n)]
+
+
+def short_matrix(reading: int, n: int, sheet: Sheet) -> list[list[Fraction]]:
+    """The exact A; for margins with a_ii to 400 binary digits, since the exact ones grow beyond reach."""
+    if reading == 1:
+        return reference.exact_matrix(reading, n, sheet)
+    return reference.exact_matrix(reading, n, sheet, lambda k: reference.rounded(k, 400, False))
+
+
+def transposed(n: int, numbers: Sequence[float]) -> list[float]:
+    return [numbers[j * n + i] for i in range(n) for j in range(n)]
+
+
+def run_groups(program: Path, groups: Sequence[Group]) -> tuple[str, list[dict[str, Result]]]:
+    """What LAPACK says of itself, and the results of each group by the candidate's name."""
+    environment = dict(os.environ, OPENBLAS_NUM_THREADS="1")
+    done = run([program], input=b"".join(group.words() for group in groups), env=environment)
+    lines = iter(done.stdout.decode().splitlines())
+    lapack = next(lines)
+    results: list[dict[str, Result]] = []
+    for group in groups:
+        found: dict[str, Result] = {}
+        takes_part = 1 + (lapack != "none") + (len(VARIANTS) if group.reading == 1 else 0)
+        for _ in range(takes_part):
+            name, nanoseconds = next(lines).split("\t")
+            answers = [parsed_answer(name, group.n, next(lines)) for _ in group.sheets]
+            found[name] = Result(float(nanoseconds), answers)
+        results.append(found)
+    return lapack, results
+
+
+def parsed_answer(name: str, n: int, line: str) -> tuple[int, list[float]]:
+    """0 or the refusal's number, and the numbers row by row."""
+    number, *words = line.split()
+    numbers = [reference.number_of(int(word, 16)) for word in words]
+    return int(number), transposed(n, numbers) if name == LAPACK else numbers
+
+
+# ==== Bits and decisions ====
+
+def bits(numbers: Iterable[float]) -> list[int]:
+    return [reference.bits_of(x) for x in numbers]
+
+
+def check_answers(what: str, group: Group, found: dict[str, Result]) -> None:
+    """The candidates beside the independent reference: the same decision where they make one, no number
+    written where it is no, and the same bits where it is yes.  LAPACK has other bits."""
+    for at, sheet in enumerate(group.sheets):
+        expected = reference.table(group.reading, group.n, sheet, group.n ** 2)
+        for name in found.keys() - {LAPACK}:
+            number, numbers = found[name].answers[at]
+            where = f"{name}, {what}, reading {group.reading}, n = {group.n}, sheet {at + 1}"
+            if isinstance(expected, reference.Table):
+                check(number == 0, f"{where}: refused with {number}")
+                check(bits(numbers) == bits(expected.entries), f"{where}: other bits than the reference")
+            elif name in DECIDES:
+                check(number == expected.number, f"{where}: answered {number}, not {expected.number}")
+                check(not any(bits(numbers)), f"{where}: refused, and wrote")
+
+
+def check_layout(group: Group, found: dict[str, Result]) -> None:
+    """LAPACK's numbers are near ours on the timing sheets, so its A has the right layout."""
+    if LAPACK in found:
+        for (_, ours), (_, theirs) in zip(found[OURS].answers, found[LAPACK].answers):
+            check(all(abs(x - y) <= 1e-6 * max(ours) for x, y in zip(ours, theirs)),
+                  f"LAPACK, reading {group.reading}, n = {group.n}: not the same matrix")
+
+
+def edge_groups(rng: random.Random, pairs: int) -> list[Group]:
+    """Sheets of reading 1 on either side of the edge of acceptance: one last place of one number apart, and
+    a quotient and a product of exactly 2^-1022 beside twice that."""
+    groups = [Group(1, 1, [[2.0 ** e] for e in (1021, 1022)]),
+              Group(1, 2, [[1.0, -(2.0 ** e), -(2.0 ** -511), 1.0] for e in (-510, -511)])]
+    while len(groups) < pairs:
+        n = rng.randint(1, 5)
+        pair = reference.edge_pair(rng, 1, n, reference.random_sheet(rng, 1, n, reference.random_style(rng)))
+        if pair is not None:
+            groups.append(Group(1, n, list(pair)))
+    for group in groups:
+        group.matrices = [[1.0] * group.n ** 2 for _ in group.sheets]   # A may be beyond binary64
+    return groups
+
+
+# ==== Tables ====
+
+def print_table(head: Sequence[str], rows: Iterable[Sequence[str]]) -> None:
+    """Aligned columns, the first to the left."""
+    lines = [list(head), *(list(row) for row in rows)]
+    widths = [max(len(line[c]) for line in lines) for c in range(len(head))]
+    for line in lines:
+        cells = [cell.rjust(width) for cell, width in zip(line[1:], widths[1:])]
+        print("  ".join([line[0].ljust(widths[0]), *cells]))
+    print(flush=True)
+
+
+def three_digits(x: float) -> str:
+    """A ratio or a count of units with about three digits."""
+    if not math.isfinite(x):
+        return "-"
+    return f"{x:.1e}" if x >= 1e5 else f"{x:.0f}" if x >= 100 else f"{x:.1f}" if x >= 10 else f"{x:.2f}"
+
+
+# ==== 1. The time of a whole table ====
+
+def timing_groups(reading: int, sizes: Sequence[int], batches: int,
+                  make: Callable[[random.Random, int], Sheet]) -> list[Group]:
+    """Four sheets for each size."""
+    groups = []
+    for n in sizes:
+        rng = random.Random(1000 * reading + n)
+        groups.append(Group(reading, n, [make(rng, n) for _ in range(4)], batches))
+    return groups
+
+
+def print_times(sizes: Sequence[int], results: Sequence[dict[str, Result]], against: Sequence[str]) -> None:
+    """Nanoseconds, then every row's time over that of the rows named in `against`."""
+    columns, names = [str(n) for n in sizes], list(results[0])
+    print_table(["nanoseconds, n =", *columns],
+                [[name, *(f"{found[name].nanoseconds:.0f}" for found in results)] for name in names])
+    for base in against:
+        if base in names:
+            rows = [[name, *(three_digits(found[name].nanoseconds / found[base].nanoseconds) for found in results)]
+                    for name in names if name != base]
+            print_table([f"time / {base}'s, n =", *columns], rows)
+
+
+def machine_line(lapack: str) -> str:
+    """Processor, compiler and LAPACK, which run_groups tells as time.c prints it."""
+    described = Path("/proc/cpuinfo").read_text(encoding="utf-8")
+    models = [line.split(":", 1)[1].strip() for line in described.splitlines() if line.startswith("model name")]
+    compiler = run(["cc", "--version"]).stdout.decode().splitlines()[0]
+    build, _, kernels = lapack.partition("\t")
+    blas = f"{' '.join(build.split()[:2])}, kernels for {kernels}, one thread" if kernels else "none"
+    return f"Machine: {models[0] if models else 'unknown'}, {os.cpu_count()} processors. C: {compiler}. LAPACK: {blas}."
+
+
+def part_times(program: Path, sizes: Sequence[int], batches: int) -> None:
+    """Both readings."""
+    dense = timing_groups(1, sizes, batches, lambda rng, n: sheets.dense(rng, n, 0.01))
+    margins = timing_groups(2, sizes, batches, lambda rng, n: sheets.dense(rng, n, 0.01))
+    half = timing_groups(2, sizes, batches, lambda rng, n: sheets.with_stages_not_kept(rng, n, 1.0, 1.0))
+    untimed = [Group(g.reading, g.n, g.sheets) for g in [*dense, *margins, *half]]
+    edges = edge_groups(random.Random(7), 40)
+    lapack, answers = run_groups(program, [*untimed, *edges])
+    for group, found in zip(untimed, answers):
+        check_answers("timing sheet", group, found)
+        check_layout(group, found)
+    for group, found in zip(edges, answers[len(untimed):]):
+        check_answers("edge of acceptance", group, found)
+    if not failures:
+        print(f"Same bits and decisions as tools/reference.py: yulanbowls on {4 * len(untimed)} timing sheets, every\n"
+              f"C variant on the {4 * len(dense)} of reading 1, and both on {2 * len(edges)} sheets at the edge of\n"
+              "acceptance.\n")
+    print(machine_line(lapack) + "\n")
+    _, times = run_groups(program, [*dense, *margins, *half])
+    print(f"1. Time of the whole table, best of {batches} batches of at least 20 microseconds; the rows take turns.\n"
+          "A column is a number of stages n. yulanbowls: the proved service with all questions, steps, range tests\n"
+          "and the writing of the answer. C: bench/steps.c, the same steps and no questions; checked C: with every\n"
+          f"range test at its step. C is compiled by cc {' '.join(COMMON)} and the flags in the\n"
+          "row's name, for plain x86-64 as the proved library is; one row is for this machine's own instructions,\n"
+          "for information. LAPACK: OpenBLAS dgetrf + dgetri with the copy of A into place; A is formed before.\n\n"
+          "Reading 1, leaving rates: four dense sheets for each n.\n")
+    count = len(sizes)
+    print_times(sizes, times[:count], [LAPACK, UNCHECKED])
+    print("Reading 2, margins: four dense sheets for each n; in the last row every second stage is not kept.\n")
+    both = [{**found, OURS + ", half kept": other[OURS]}
+            for found, other in zip(times[count:2 * count], times[2 * count:])]
+    print_times(sizes, both, [LAPACK])
+
+
+# ==== 2. The slow path ====
+
+def slow_sheets(n: int) -> list[tuple[str, Sheet]]:
+    """Sheets with what they show."""
+    rng = random.Random(n)
+    ordinary = sheets.dense(rng, n, 0.01)
+    edge = sheets.lowest_accepted(n, ordinary)
+    return [("ordinary", ordinary),
+            (f"ordinary times 2^{edge}, the last power accepted", sheets.scaled(ordinary, edge)),
+            (f"ordinary times 2^{edge - 1}", sheets.scaled(ordinary, edge - 1)),
+            ("one row of every second stage fails the quick test", sheets.pairs(rng, n)),
+            ("a line with one exit at its end: question 9 takes n passes", sheets.line(rng, n)),
+            ("moves near 2^-600: a product of two rounds to zero", sheets.small_moves(rng, n, -600)),
+            ("moves near 2^-520: a product of two is subnormal", sheets.small_moves(rng, n, -520))]
+
+
+def part_slow_path(program: Path, sizes: Sequence[int], batches: int) -> None:
+    """Sheets at the range's edge and beyond it beside an ordinary one."""
+    cases = [(n, what, sheet) for n in sizes for what, sheet in slow_sheets(n)]
+    groups = [Group(1, n, [sheet], batches, [[1.0] * n ** 2]) for n, _, sheet in cases]
+    _, results = run_groups(program, groups)
+    rows = []
+    for (n, what, sheet), group, found in zip(cases, groups, results):
+        check_answers(what, group, found)
+        number = found[OURS].answers[0][0]
+        rows.append([what, str(n), f"refused {number}" if number else "accepted",
+                     f"{sheets.full_tests(n, sheet)} of {n * (n - 1)}",
+                     *(f"{found[name].nanoseconds:.0f}" for name in (OURS, CHECKED, UNCHECKED))])
+    print(f"2. Sheets at the edge of the range, reading 1, in nanoseconds, best of {batches} batches. A row update\n"
+          "passes the quick range test where its multiplier times the least of 1 and the nonzero numbers of the row\n"
+          "that is added is above 2^-1022. Full tests: the updates where it fails, so that each step of the row is\n"
+          "tested; on an accepted sheet they are at most one a stage. Where products are subnormal the processor\n"
+          "itself is slower, as plain C shows.\n")
+    print_table(["sheet", "n", "answer", "full tests", OURS, CHECKED, UNCHECKED], rows)
+
+
+# ==== 3. Errors ====
+
+@dataclass
+class ErrorCase:
+    """Sheets of one kind and size."""
+    reading: int
+    n: int
+    what: str
+    sheets: list[Sheet]
+
+
+def many(n: int) -> int:
+    """How many sheets of one kind: the exact inverse takes a second or two at n = 32."""
+    return 3 if n <= 16 else 1
+
+
+def error_cases(sizes: Sequence[int]) -> list[ErrorCase]:
+    """From well conditioned to badly conditioned, both readings."""
+    kinds: list[tuple[int, str, Callable[[random.Random, int], Sheet]]] = []
+    for f in (1.0, 1e-3, 1e-6, 1e-9, 1e-12, 1e-15):
+        kinds.append((1, f"leaving rates {f:.0e} of the moves", lambda rng, n, f=f: sheets.dense(rng, n, f)))
+    for spread in (3, 10, 30):
+        kinds.append((1, f"rates from 1e-{spread} to 1e{spread}, leaving 1e-6 of that",
+                      lambda rng, n, spread=spread: sheets.dense(rng, n, 1e-6, spread)))
+    for f in (1.0, 1e-6, 1e-12):
+        kinds.append((2, f"margins {f:.0e} of the moves", lambda rng, n, f=f: sheets.dense(rng, n, f)))
+    for f in (1.0, 1e-8):
+        kinds.append((2, f"half not kept, margins {f:.0e}, moves to them 1e+04",
+                      lambda rng, n, f=f: sheets.with_stages_not_kept(rng, n, f, 1e4)))
+    return [ErrorCase(reading, n, what, [make(random.Random(100 * n + seed), n) for seed in range(many(n))])
+            for reading, what, make in kinds for n in sizes]
+
+
+def relative_error(x: float, y: reference.Quotient) -> float:
+    """|x − y| / y of an exact y above zero; infinite where that is no float."""
+    if not math.isfinite(x):
+        return math.inf
+    numerator, denominator = x.as_integer_ratio()
+    left, right = numerator * y[1], denominator * y[0]
+    try:
+        return abs(left - right) / right
+    except OverflowError:
+        return math.inf
+
+
+def largest_error(numbers: Sequence[float], n: int, bounds: tuple[reference.Inverse, reference.Inverse]) -> float:
+    """Over the entries that are not zero, against both bounds of the exact inverse, which are one where it
+    is short."""
+    different = bounds if bounds[0] is not bounds[1] else bounds[:1]
+    return max(relative_error(x, bound[p // n][p % n])
+               for bound in different for p, x in enumerate(numbers) if bound[p // n][p % n][0] != 0)
+
+
+def zeros_lost(numbers: Sequence[float], n: int, inverse: reference.Inverse) -> int:
+    """How many entries are not zero where the exact one is."""
+    return sum(x != 0.0 and inverse[p // n][p % n][0] == 0 for p, x in enumerate(numbers))
+
+
+def condition(a: list[list[Fraction]], inverse: reference.Inverse) -> float:
+    """The largest row sum of sizes of A times that of its exact inverse."""
+    return max(float(sum(map(abs, row))) for row in a) * max(sum(p / q for p, q in row) for row in inverse)
+
+
+@dataclass
+class Errors:
+    """The largest over the sheets of a case."""
+    condition: float = 0.0
+    ours: float = 0.0
+    lapack: Optional[float] = None
+    zeros_lost: int = 0     # by LAPACK, over all sheets; ours are checked to be none
+
+
+def case_errors(case: ErrorCase, found: dict[str, Result]) -> Errors:
+    """Compares with the exact inverse, and checks ours against its allowance in whole numbers."""
+    n, most = case.n, reference.allowance(case.reading, case.n)
+    worst = Errors()
+    for at, sheet in enumerate(case.sheets):
+        bounds = reference.exact_bounds(case.reading, n, sheet)
+        number, ours = found[OURS].answers[at]
+        check(number == 0, f"reading {case.reading}, n = {n}, {case.what}: refused with {number}")
+        check(all(math.isfinite(x) and reference.near(x.as_integer_ratio(), bound[p // n][p % n], most)
+                  for bound in bounds for p, x in enumerate(ours)),
+              f"reading {case.reading}, n = {n}, {case.what}: an error above the allowance")
+        worst.condition = max(worst.condition, condition(short_matrix(case.reading, n, sheet), bounds[0]))
+        worst.ours = max(worst.ours, largest_error(ours, n, bounds))
+        if LAPACK in found:
+            info, theirs = found[LAPACK].answers[at]
+            worst.lapack = max(worst.lapack or 0.0, math.inf if info else largest_error(theirs, n, bounds))
+            worst.zeros_lost += zeros_lost(theirs, n, bounds[0])
+    return worst
+
+
+def part_errors(program: Path, sizes: Sequence[int]) -> None:
+    """The table of errors."""
+    cases = error_cases(sizes)
+    _, results = run_groups(program, [Group(case.reading, case.n, case.sheets) for case in cases])
+    rows = []
+    for case, found in zip(cases, results):
+        errors = case_errors(case, found)
+        row = [case.what, str(case.reading), str(case.n), f"{errors.condition:.1e}",
+               three_digits(errors.ours / UNIT), f"{errors.ours:.1e}",
+               str(reference.allowance(case.reading, case.n))]
+        if errors.lapack is not None:
+            lost = math.isinf(errors.lapack)
+            row += ["-" if lost else three_digits(errors.lapack / UNIT),
+                    "no inverse" if lost else f"{errors.lapack:.1e}", str(errors.zeros_lost)]
+        rows.append(row)
+    print("3. Largest relative error over the entries of the inverse, against the exact inverse in whole numbers.\n"
+          "A line is for three sheets, at n = 32 for one. u is 2^-53, about 1.1e-16. Condition: the largest row sum\n"
+          "of sizes of A times that of its inverse. Allowed: E of (1 + u)^E; every entry of yulanbowls is checked\n"
+          "against it in whole numbers, zeros included. LAPACK is given A's entries rounded to nearest from the exact\n"
+          "ones; zeros lost are its entries that are not zero where the exact one is, left out of its error.\n")
+    head = ["sheets", "reading", "n", "condition", "yulanbowls / u", "yulanbowls", "allowed"]
+    print_table(head + (["LAPACK / u", "LAPACK", "zeros lost"] if len(rows[0]) > len(head) else []), rows)
+
+
+# ==== Command line ====
+
+def parsed(arguments: Sequence[str]) -> argparse.Namespace:
+    parser = argparse.ArgumentParser(description="Times and errors of the proved table, plain C and LAPACK.")
+    parser.add_argument("--quick", action="store_true", help="few batches and small sheets, for a test")
+    parser.add_argument("--no-errors", action="store_true", help="leave out the table of errors")
+    parser.add_argument("--sizes", default=None, metavar="N,N,..", help="the sizes of the first table")
+    options = parser.parse_args(arguments)
+    try:
+        options.sizes = [int(n) for n in options.sizes.split(",")] if options.sizes else SIZES
+    except ValueError:
+        parser.error("--sizes takes whole numbers with commas between them")
+    if not all(1 <= n <= reference.LIMIT for n in options.sizes):
+        parser.error("--sizes takes numbers from 1 to 32")
+    return options
+
+
+def main(arguments: Sequence[str]) -> int:
+    """Builds, checks, prints; the exit status."""
+    options = parsed(arguments)
+    program = build()
+    batches = 50 if options.quick else 2000
+    part_times(program, options.sizes, batches)
+    part_slow_path(program, [8, 32], batches // 5)
+    if not options.no_errors:
+        part_errors(program, [4, 8] if options.quick else [4, 8, 16, 32])
+    print(f"{len(failures)} checks failed" if failures else "All checks passed")
+    return 1 if failures else 0
+
+
+if __name__ == "__main__":
+    sys.exit(main(sys.argv[1:]))

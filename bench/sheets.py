@@ -1,0 +1,101 @@
+"""The sheets of the benchmark, made from fixed seeds, and the count of rows that need the full range test."""
+from __future__ import annotations
+
+import math
+import random
+import sys
+from pathlib import Path
+
+sys.path.insert(0, str(Path(__file__).resolve().parent.parent / "tools"))
+import reference  # noqa: E402  the path comes first
+
+Sheet = list[float]
+
+
+def dense(rng: random.Random, n: int, diagonal: float, spread: float = 0.0) -> Sheet:
+    """Every move there, sizes from 0.5 to 2, times 10 to a power up to `spread` either way; the diagonal
+    parameter is `diagonal` times such a number.  Good for both readings."""
+    def size() -> float:
+        return rng.uniform(0.5, 2.0) * 10.0 ** rng.uniform(-spread, spread)
+    return [diagonal * size() if i == j else -size() for i in range(n) for j in range(n)]
+
+
+def with_stages_not_kept(rng: random.Random, n: int, margin: float, larger: float) -> Sheet:
+    """Reading 2: every second stage from the first has no move (h is 0), and moves of later stages to it
+    are `larger` times the others, as in source document 000, Table 2."""
+    sheet = dense(rng, n, margin)
+    for i in range(n):
+        for j in range(n):
+            if i != j and i % 2 == 0:
+                sheet[i * n + j] = 0.0
+            elif j < i and j % 2 == 0:
+                sheet[i * n + j] *= larger
+    return sheet
+
+
+def scaled(sheet: Sheet, exponent: int) -> Sheet:
+    """The sheet with every rate times 2^exponent."""
+    return [math.ldexp(x, exponent) for x in sheet]
+
+
+def lowest_accepted(n: int, sheet: Sheet) -> int:
+    """The least exponent for which the sheet scaled by that power of two is accepted."""
+    accepted, refused = -900, -1100
+    while accepted - refused > 1:
+        middle = (accepted + refused) // 2
+        if isinstance(reference.table(1, n, scaled(sheet, middle), n * n), reference.Table):
+            accepted = middle
+        else:
+            refused = middle
+    return accepted
+
+
+def small_moves(rng: random.Random, n: int, exponent: int) -> Sheet:
+    """Leaving rates near 1 and moves near 2^exponent."""
+    return [x if p % (n + 1) == 0 else math.ldexp(x, exponent) for p, x in enumerate(dense(rng, n, 1.0))]
+
+
+def pairs(rng: random.Random, n: int) -> Sheet:
+    """Stages in pairs, n even.  The first of a pair moves to the second at hardly more than 2^-1022, the
+    second to the first at a quarter of its leaving rate; both move to the second of every earlier pair.  At
+    every second stage the quick test fails for the one row that changes, and yet every step is in range."""
+    def size(i: int, j: int) -> float:
+        if i // 2 == j // 2:
+            return 2.0 ** -1022 * rng.uniform(2.0, 3.0) if i < j else 2.0 ** -102
+        return 2.0 ** -103 * rng.uniform(1.0, 2.0) if j < i and j % 2 == 1 else 0.0
+    return [2.0 ** -100 if i == j else -size(i, j) for i in range(n) for j in range(n)]
+
+
+def line(rng: random.Random, n: int) -> Sheet:
+    """Each stage moves to the next alone, and only the last leaves: question 9 marks one stage in a pass."""
+    return [rng.uniform(0.5, 2.0) if i == j == n - 1 else -rng.uniform(0.5, 2.0) if j == i + 1 else 0.0
+            for i in range(n) for j in range(n)]
+
+
+def full_tests(n: int, sheet: Sheet) -> int:
+    """How many of the n·(n − 1) row updates fail the quick range test and need the full one: those with a
+    multiplier m > 0 for which m times the least nonzero number of the row that is added, or m, is not above
+    2^-1022.  The steps run on where they leave the range."""
+    t, s = reference.sheet_parts(n, sheet)
+    b = [[1.0 if i == j else 0.0 for j in range(n)] for i in range(n)]
+    p, count = [], 0
+
+    def update(i: int, k: int, least: float) -> float:
+        nonlocal count
+        m = t[i][k] / p[k]
+        count += t[i][k] != 0.0 and not m * least > reference.SMALLEST_NORMAL
+        b[i] = [x + m * y for x, y in zip(b[i], b[k])]
+        return m
+
+    for k in range(n):
+        p.append(sum(t[k][k + 1:], s[k]))
+        least = min([1.0] + [x for x in [s[k], *t[k][k + 1:], *b[k]] if x != 0.0])
+        for i in range(k + 1, n):
+            m = update(i, k, least)
+            s[i] += m * s[k]
+            t[i] = [t[i][j] + m * t[k][j] if j > k and j != i else t[i][j] for j in range(n)]
+    for k in range(n - 1, 0, -1):
+        least = min([1.0] + [x for x in b[k] if x != 0.0])
+        for i in range(k):
+            update(i, k, least)
+    return count

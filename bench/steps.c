@@ -1,0 +1,144 @@
+/* The steps for leaving rates of document 01, in its order, in plain C. run.py compiles this file several
+   times: SUFFIX gives each build its own function name, and with CHECKED every range test of document 01
+   stands at its step. Questions 1 to 9 are not asked.
+
+   The working tables have 32 numbers to a row. s stands apart from the sizes t, so the loop over a row may
+   run over the diagonal place of t: no step reads that place. */
+#include <float.h>
+#include <stddef.h>
+#include <string.h>
+
+#define LIMIT 32
+#define JOINED(a, b) a##b
+#define JOIN(a, b) JOINED(a, b)
+
+/* t from the sheet's sizes, s from its diagonal, b the identity. A zero of either sign is plus zero. */
+static inline void load(size_t n, const double *restrict sheet, double (*restrict t)[LIMIT],
+                        double (*restrict b)[LIMIT], double *restrict s)
+{
+    for (size_t i = 0; i < n; i++) {
+        for (size_t j = 0; j < n; j++)
+            t[i][j] = 0.0 - sheet[i * n + j];
+        s[i] = sheet[i * n + i] + 0.0;
+        memset(b[i], 0, n * sizeof(double));
+        b[i][i] = 1.0;
+    }
+}
+
+#ifndef CHECKED
+
+/* Adds m times the numbers `from` to the numbers `to`. */
+static inline void add_multiple(size_t count, double m, const double *restrict from, double *restrict to)
+{
+    for (size_t j = 0; j < count; j++)
+        to[j] += m * from[j];
+}
+
+/* The whole table; 1 always. */
+int JOIN(steps_, SUFFIX)(size_t n, const double *restrict sheet, double *restrict answer)
+{
+    double t[LIMIT][LIMIT], b[LIMIT][LIMIT], s[LIMIT], p[LIMIT];
+    load(n, sheet, t, b, s);
+    for (size_t k = 0; k < n; k++) {
+        double pivot = s[k];
+        for (size_t j = k + 1; j < n; j++)
+            pivot += t[k][j];
+        p[k] = pivot;
+        for (size_t i = k + 1; i < n; i++) {
+            double m = t[i][k] / pivot;
+            s[i] += m * s[k];
+            add_multiple(n - (k + 1), m, &t[k][k + 1], &t[i][k + 1]);
+            add_multiple(k + 1, m, b[k], b[i]);
+        }
+    }
+    for (size_t k = n - 1; k > 0; k--)
+        for (size_t i = 0; i < k; i++)
+            add_multiple(n, t[i][k] / p[k], b[k], b[i]);
+    for (size_t i = 0; i < n; i++)
+        for (size_t j = 0; j < n; j++)
+            answer[i * n + j] = b[i][j] / p[i];
+    return 1;
+}
+
+#else
+
+/* Flags are numbers, 0.0 while all is well, and there is one for each column: such a loop becomes vector
+   code in plain x86-64, a single flag does not. No number of the steps is negative, so a number is finite
+   where it is at most DBL_MAX, and a finite sum has finite terms: its test is also theirs. The diagonal
+   place of t, which is no step, keeps its column's flag. */
+
+/* The flag after a result that must be finite. */
+static inline double finite(double flag, double result)
+{
+    return result <= DBL_MAX ? flag : 1.0;
+}
+
+/* The flag after a product or quotient that must be above `least` unless the number y in it is zero. */
+static inline double above(double flag, double result, double least, double y)
+{
+    return result > least ? flag : (y == 0.0 ? flag : 1.0);
+}
+
+/* What products with m must be above: with m zero, every product passes. */
+static inline double least_product(double m)
+{
+    return m == 0.0 ? -1.0 : DBL_MIN;
+}
+
+static inline void add_multiple(size_t count, double m, const double *restrict from, double *restrict to,
+                                double *restrict flags)
+{
+    double least = least_product(m);
+    for (size_t j = 0; j < count; j++) {
+        double product = m * from[j];
+        double sum = to[j] + product;
+        flags[j] = finite(above(flags[j], product, least, from[j]), sum);
+        to[j] = sum;
+    }
+}
+
+/* The whole table; 1 where every step is in range, else 0 with no place changed. */
+int JOIN(steps_, SUFFIX)(size_t n, const double *restrict sheet, double *restrict answer)
+{
+    double t[LIMIT][LIMIT], b[LIMIT][LIMIT], s[LIMIT], p[LIMIT], flags[LIMIT] = {0.0}, flag = 0.0;
+    load(n, sheet, t, b, s);
+    for (size_t k = 0; k < n; k++) {
+        double pivot = s[k];
+        for (size_t j = k + 1; j < n; j++)
+            pivot += t[k][j];
+        flag = finite(flag, pivot);
+        p[k] = pivot;
+        for (size_t i = k + 1; i < n; i++) {
+            double m = t[i][k] / pivot;
+            flag = finite(above(flag, m, DBL_MIN, t[i][k]), m);
+            double product = m * s[k];
+            s[i] += product;
+            flag = finite(above(flag, product, least_product(m), s[k]), s[i]);
+            double kept = flags[i];
+            add_multiple(n - (k + 1), m, &t[k][k + 1], &t[i][k + 1], &flags[k + 1]);
+            flags[i] = kept;
+            add_multiple(k + 1, m, b[k], b[i], flags);
+        }
+    }
+    for (size_t k = n - 1; k > 0; k--)
+        for (size_t i = 0; i < k; i++) {
+            double m = t[i][k] / p[k];
+            flag = finite(above(flag, m, DBL_MIN, t[i][k]), m);
+            add_multiple(n, m, b[k], b[i], flags);
+        }
+    for (size_t i = 0; i < n; i++)
+        for (size_t j = 0; j < n; j++) {
+            double x = b[i][j] / p[i];
+            flags[j] = finite(above(flags[j], x, DBL_MIN, b[i][j]), x);
+            b[i][j] = x;
+        }
+    for (size_t j = 0; j < n; j++)
+        flag += flags[j];
+    if (flag != 0.0)
+        return 0;
+    for (size_t i = 0; i < n; i++)
+        memcpy(&answer[i * n], b[i], n * sizeof(double));
+    return 1;
+}
+
+#endif

@@ -1,0 +1,239 @@
+/* Runs every candidate on the sheets that run.py hands over on standard input, and prints what each
+   answered and its best time.
+
+   Input, in 8-byte words, group after group: reading, n, how many sheets, how many batches, the sheets
+   row by row, then for each sheet its matrix A column by column. Output: a line with OpenBLAS's build and
+   kernels, or "none"; then for each group and each of its candidates a line with the name, a tab and the
+   nanoseconds for one table (0 without batches), and a line for each sheet: 0 or the number of the refusal,
+   and the n × n words of the answer in hexadecimal. */
+#define _POSIX_C_SOURCE 200809L
+#include <stdint.h>
+#include <stdio.h>
+#include <stdlib.h>
+#include <string.h>
+#include <time.h>
+
+#include "yulanbowls.h"
+
+enum { LIMIT = 32, MOST = LIMIT * LIMIT, WORKSPACE = 64 * LIMIT, MOST_GROUPS = 256, MOST_CANDIDATES = 8 };
+enum { TURN = 10 };                           /* batches of a group before the next group has its turn */
+static const double shortest_batch = 20000.0; /* nanoseconds: long beside what a look at the clock costs */
+
+struct group {
+    uint64_t reading, n, sheets, batches;
+    double *numbers, *matrices;
+    uint64_t calls[MOST_CANDIDATES]; /* in a batch */
+    double best[MOST_CANDIDATES];
+};
+
+struct candidate {
+    const char *name;
+    size_t (*table)(const struct group *g, size_t at, double *answer);
+    int margins; /* whether it knows reading 2 */
+};
+
+static const double *sheet_of(const struct group *g, size_t at)
+{
+    return &g->numbers[at * g->n * g->n];
+}
+
+static size_t proved(const struct group *g, size_t at, double *answer)
+{
+    size_t allowance, row, column, places = g->n * g->n;
+    return yulanbowls_table(g->reading, g->n, sheet_of(g, at), places, answer, places, &allowance, &row, &column);
+}
+
+#define STEPS(suffix)                                                                        \
+    int steps_##suffix(size_t n, const double *sheet, double *answer);                       \
+    static size_t table_##suffix(const struct group *g, size_t at, double *answer)           \
+    {                                                                                        \
+        return steps_##suffix(g->n, sheet_of(g, at), answer) ? 0 : 10;                       \
+    }
+STEPS(plain_O2)
+STEPS(plain_O3)
+STEPS(checked_O2)
+STEPS(checked_O3)
+STEPS(plain_native)
+
+#ifdef LAPACK
+void dgetrf_(const int *m, const int *n, double *a, const int *lda, int *pivots, int *info);
+void dgetri_(const int *n, double *a, const int *lda, const int *pivots, double *work, const int *lwork, int *info);
+char *openblas_get_config(void);
+char *openblas_get_corename(void);
+
+/* The copy of A into place is timed, the forming of A and the workspace are not. The inverse comes column
+   by column. */
+static size_t lapack(const struct group *g, size_t at, double *answer)
+{
+    static double work[WORKSPACE];
+    static int pivots[LIMIT];
+    const int n = (int)g->n, size = WORKSPACE;
+    int info;
+    memcpy(answer, &g->matrices[at * g->n * g->n], g->n * g->n * sizeof(double));
+    dgetrf_(&n, &n, answer, &n, pivots, &info);
+    if (info == 0)
+        dgetri_(&n, answer, &n, pivots, work, &size, &info);
+    return (size_t)info;
+}
+#endif
+
+static const struct candidate candidates[] = {
+    {"yulanbowls", proved, 1},
+    {"C -O3", table_plain_O3, 0},
+    {"C -O2", table_plain_O2, 0},
+    {"checked C -O3", table_checked_O3, 0},
+    {"checked C -O2", table_checked_O2, 0},
+    {"C -O3 -march=native", table_plain_native, 0},
+#ifdef LAPACK
+    {"LAPACK", lapack, 1},
+#endif
+};
+#define CANDIDATES (sizeof candidates / sizeof candidates[0])
+_Static_assert(CANDIDATES <= MOST_CANDIDATES, "room for every candidate");
+
+static int takes_part(const struct group *g, size_t c)
+{
+    return g->reading == 1 || candidates[c].margins;
+}
+
+/* Nanoseconds of so many tables, the sheets in turn. The round moves the stack, so that a row's best time
+   does not hang on where the tables of this one program happen to lie. */
+static double batch(const struct group *g, size_t c, uint64_t calls, uint64_t round)
+{
+    static double answer[MOST];
+    volatile char moved[64 * (1 + round % 64)];
+    struct timespec start, end;
+    moved[0] = 0;
+    (void)moved;
+    clock_gettime(CLOCK_MONOTONIC, &start);
+    for (uint64_t call = 0, at = 0; call < calls; call++) {
+        candidates[c].table(g, at, answer);
+        at = at + 1 < g->sheets ? at + 1 : 0;
+    }
+    clock_gettime(CLOCK_MONOTONIC, &end);
+    return (double)(end.tv_sec - start.tv_sec) * 1e9 + (double)(end.tv_nsec - start.tv_nsec);
+}
+
+/* Every sheet has the same share of a batch. A batch is long enough if it is so several times in a row: the
+   first calls of a program are slow. */
+static void choose_calls(struct group *g)
+{
+    for (size_t c = 0; c < CANDIDATES; c++)
+        if (takes_part(g, c)) {
+            g->calls[c] = g->sheets;
+            for (int enough = 0; enough < 3; enough++)
+                if (batch(g, c, g->calls[c], 0) < shortest_batch) {
+                    g->calls[c] *= 2;
+                    enough = -1;
+                }
+            g->best[c] = 1e18;
+        }
+}
+
+/* One batch of each candidate. */
+static void measure(struct group *g, uint64_t round)
+{
+    for (size_t c = 0; c < CANDIDATES; c++)
+        if (takes_part(g, c)) {
+            double each = batch(g, c, g->calls[c], round) / (double)g->calls[c];
+            if (each < g->best[c])
+                g->best[c] = each;
+        }
+}
+
+/* Candidates take turns, and so do groups, until all have had their batches: a slow moment of the machine
+   meets all candidates of a group alike, and a longer one does not last for all turns of a group. */
+static void measure_all(struct group *groups, size_t count)
+{
+    int left = 1;
+    for (size_t g = 0; g < count; g++)
+        if (groups[g].batches > 0)
+            choose_calls(&groups[g]);
+    for (uint64_t done = 0; left; done += TURN) {
+        left = 0;
+        for (size_t g = 0; g < count; g++)
+            for (uint64_t round = done; round < done + TURN && round < groups[g].batches; round++) {
+                measure(&groups[g], round);
+                left = 1;
+            }
+    }
+}
+
+static void print_answers(const struct group *g, size_t c)
+{
+    for (size_t at = 0; at < g->sheets; at++) {
+        double answer[MOST] = {0.0};
+        printf("%zu", candidates[c].table(g, at, answer));
+        for (size_t place = 0; place < g->n * g->n; place++) {
+            uint64_t word;
+            memcpy(&word, &answer[place], sizeof word);
+            printf(" %016llx", (unsigned long long)word);
+        }
+        printf("\n");
+    }
+}
+
+static void print_group(const struct group *g)
+{
+    for (size_t c = 0; c < CANDIDATES; c++)
+        if (takes_part(g, c)) {
+            printf("%s\t%.3f\n", candidates[c].name, g->batches > 0 ? g->best[c] : 0.0);
+            print_answers(g, c);
+        }
+}
+
+/* So many words, or the end of the program. */
+static void read_words(void *to, size_t count)
+{
+    if (fread(to, 8, count, stdin) != count) {
+        fprintf(stderr, "time: the input ends inside a group\n");
+        exit(2);
+    }
+}
+
+static double *read_numbers(size_t count)
+{
+    double *numbers = malloc(count * sizeof(double));
+    if (numbers == NULL)
+        exit(2);
+    read_words(numbers, count);
+    return numbers;
+}
+
+/* The next group of the input; 0 at its end. */
+static int read_group(struct group *g)
+{
+    if (fread(&g->reading, 8, 1, stdin) != 1)
+        return 0;
+    read_words(&g->n, 1);
+    read_words(&g->sheets, 1);
+    read_words(&g->batches, 1);
+    if (g->n < 1 || g->n > LIMIT || g->sheets < 1) {
+        fprintf(stderr, "time: a group of %zu stages and %zu sheets\n", (size_t)g->n, (size_t)g->sheets);
+        exit(2);
+    }
+    g->numbers = read_numbers(g->sheets * g->n * g->n);
+    g->matrices = read_numbers(g->sheets * g->n * g->n);
+    return 1;
+}
+
+int main(void)
+{
+    static struct group groups[MOST_GROUPS];
+    size_t count = 0;
+    while (count < MOST_GROUPS && read_group(&groups[count]))
+        count++;
+    if (count == MOST_GROUPS) {
+        fprintf(stderr, "time: too many groups\n");
+        return 2;
+    }
+    measure_all(groups, count);
+#ifdef LAPACK
+    printf("%s\t%s\n", openblas_get_config(), openblas_get_corename());
+#else
+    printf("none\n");
+#endif
+    for (size_t g = 0; g < count; g++)
+        print_group(&groups[g]);
+    return 0;
+}

@@ -1,0 +1,103 @@
+/*
+ * Prints the table of a sheet file by the proved library: host FILE, or host < FILE.
+ *
+ *   rt staticlib hosts
+ *   cc -std=c99 -Wall -Wextra -pedantic -I include examples/host.c target/staticlib/libhosts.a -o target/host
+ *   python3 tools/sheet.py make examples/signing.txt | target/host
+ *
+ * The numbers are printed with 17 digits, which read back as the same numbers. A refusal is printed as its
+ * number, row and column, with exit status 1.
+ */
+#include <stdio.h>
+
+#include "yulanbowls.h"
+
+/* What a call is refused with. */
+struct refusal {
+    size_t number, row, column;
+};
+
+static int print_refusal(const struct refusal *no)
+{
+    printf("refused %zu %zu %zu\n", no->number, no->row, no->column);
+    return 1;
+}
+
+static void print_table(size_t n, const double *table, size_t allowance)
+{
+    for (size_t i = 0; i < n; i++) {
+        for (size_t j = 0; j < n; j++) {
+            printf("%s%.17g", j == 0 ? "" : " ", table[i * n + j]);
+        }
+        printf("\n");
+    }
+    printf("each within a factor (1 + 2^-53)^%zu of the exact number\n", allowance);
+}
+
+/* The seconds at the last stage of a request that enters at the first. */
+static int print_last(size_t reading, size_t n, const double *sheet)
+{
+    double seconds;
+    struct refusal no;
+
+    no.number = yulanbowls_entry(reading, n, sheet, n * n, 1, n, &seconds, &no.row, &no.column);
+    if (no.number != 0) {
+        return print_refusal(&no);
+    }
+    printf("stage 1 to stage %zu: %.17g seconds\n", n, seconds);
+    return 0;
+}
+
+static int print_sheet(size_t reading, size_t n, const double *sheet)
+{
+    double table[YULANBOWLS_NUMBERS];
+    size_t allowance;
+    struct refusal no;
+
+    no.number = yulanbowls_table(reading, n, sheet, n * n, table, YULANBOWLS_NUMBERS, &allowance,
+                                 &no.row, &no.column);
+    if (no.number != 0) {
+        return print_refusal(&no);
+    }
+    print_table(n, table, allowance);
+    return print_last(reading, n, sheet);
+}
+
+/* One byte more than the longest file is read, so that a longer one is noticed. */
+static int print_file(FILE *from)
+{
+    uint8_t bytes[YULANBOWLS_FILE_BYTES + 1];
+    double sheet[YULANBOWLS_NUMBERS];
+    size_t reading, n;
+    struct refusal no;
+    size_t length = fread(bytes, 1, sizeof bytes, from);
+
+    if (ferror(from)) {
+        perror("host");
+        return 2;
+    }
+    no.number = yulanbowls_read_numbers(bytes, length, sheet, YULANBOWLS_NUMBERS, &reading, &n, &no.row,
+                                        &no.column);
+    if (no.number != 0) {
+        return print_refusal(&no);
+    }
+    return print_sheet(reading, n, sheet);
+}
+
+int main(int count, char **words)
+{
+    FILE *from = stdin;
+    int status;
+
+    if (count > 2) {
+        fprintf(stderr, "usage: host [FILE]\n");
+        return 2;
+    }
+    if (count == 2 && (from = fopen(words[1], "rb")) == NULL) {
+        perror(words[1]);
+        return 2;
+    }
+    status = print_file(from);
+    fclose(from);
+    return status;
+}

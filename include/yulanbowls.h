@@ -1,0 +1,121 @@
+/*
+ * Yulanbowls for C and C++ programs: dwell times from a flow sheet. The archive is libhosts.a, which
+ * `rt staticlib hosts` builds for x86-64 Linux. What is promised below is proved of the library's code;
+ * the exact statements are the `ensures` of crates/hosts/src/lib.rt and crates/hosts/specs/.
+ *
+ * The sheet
+ *   n stages, 1 to 32, and n * n numbers, row by row, so at most 1,024. Off the diagonal, place (i, j)
+ *   holds minus the rate per second of moving from stage i to stage j. The diagonal place of stage i holds
+ *     reading 1: the rate at which requests leave for good, zero or above;
+ *     reading 2: the margin of row i, above zero.
+ *   Stages, rows and columns are numbered from 1.
+ *
+ * The answer of a call
+ *   Every call but yulanbowls_report returns 0 if it is accepted, and else the number of its refusal. Every
+ *   out place is written by every call: `row` and `column` are those of the refusal, 0 and 0 where it has
+ *   none and where the call is accepted; the others are 0 where the call is refused. A refused call changes
+ *   no place of a lent area. The reasons are looked for in the order of their numbers, each in the whole sheet
+ *   before the next, but in a file 11 to 13 record by record, then 14 and then 4. The first decides.
+ *
+ *   number  the call is refused because                                          row, column
+ *        1  the reading is neither 1 nor 2                                        0, 0
+ *        2  n is below 1 or above 32                                              0, 0
+ *        3  the sheet has more or fewer than n * n numbers                        0, 0
+ *        4  the area has room for fewer than n * n numbers                        0, 0
+ *        5  a stage that is asked for is below 1 or above n                       0, 0
+ *        6  a number is an infinity or a NaN                                      of the first such number
+ *        7  a number has the wrong sign: off the diagonal it is above zero,       of the first such number
+ *           or on it below zero (reading 1), or not above zero (reading 2)
+ *        8  a number is not zero and smaller in size than 2^-1022                 of the first such number
+ *        9  reading 1: from some stage no chain of moves leads out                of the lowest such stage, 0
+ *       10  a step of the computation leaves the range of binary64: a result      0, 0
+ *           is not finite, or a product or quotient of numbers that are not
+ *           zero is not above 2^-1022
+ *       11  the file ends inside a record                                         of the row due (head: 0), 0
+ *       12  the file's first record is no head with reading 1 or 2 and            0, 0
+ *           1 to 32 stages
+ *       13  a record is not the row that is due, of n numbers                     of the row due, 0
+ *       14  bytes follow the last row                                             0, 0
+ *
+ *   yulanbowls_table can return 1 to 4 and 6 to 10, yulanbowls_entry 1 to 3 and 5 to 10, and the two readers
+ *   of files 4 and 11 to 14.
+ *
+ * What the caller owes, in every call (nothing tests it)
+ *   - Each pointer is not null, is aligned for its type, and points to as many numbers or bytes as the
+ *     length behind it says, or to one place where no length follows. A length may be 0: the pointer is then
+ *     still not null. What a place that the call may write holds before does not matter.
+ *   - No two of the places and areas of a call overlap, and while it runs no other thread writes to any
+ *     of them or reads what the call may write. Calls keep nothing, so threads may call at the same time.
+ *   - The floating-point environment is that in which a C program starts: results are rounded to nearest,
+ *     small numbers are neither flushed to zero nor read as zero, exceptions are masked. The code uses SSE2,
+ *     which every x86-64 has. A call may set status flags.
+ *   - Some 52,000 bytes of stack are left for the call (measured, not proved). It takes no memory
+ *     elsewhere, and needs memcpy and memset of the C library alone.
+ */
+#ifndef YULANBOWLS_H
+#define YULANBOWLS_H
+
+#include <stddef.h>
+#include <stdint.h>
+
+#ifdef __cplusplus
+extern "C" {
+#endif
+
+/* The largest n, the most numbers of a sheet or a table, the bytes of the longest sheet file, and the bytes
+ * that yulanbowls_report has to be lent. */
+#define YULANBOWLS_STAGES 32
+#define YULANBOWLS_NUMBERS 1024
+#define YULANBOWLS_FILE_BYTES 8458
+#define YULANBOWLS_TEXT_BYTES 32768
+
+/*
+ * The whole table. Accepted: the first n * n places of `answer` hold it row by row, place (i, j) the seconds
+ * that a request entering at stage i spends at stage j, and later places are unchanged. `*allowance` is E =
+ * 4n^3 (reading 1) or 12n^3 (reading 2): the exact matrix of the sheet has one inverse, no entry of which is
+ * negative, and each entry of the table is within a factor (1 + 2^-53)^E of that inverse's, above and below,
+ * so it is zero exactly where that is zero. The bits are those of the published steps, each rounded once.
+ */
+size_t yulanbowls_table(size_t reading, size_t n,
+                        const double *sheet, size_t sheet_length,
+                        double *answer, size_t answer_length,
+                        size_t *allowance, size_t *row, size_t *column);
+
+/*
+ * Entry (i, j) of the table. Accepted: `*seconds` has the bits of that entry in the whole table, and its
+ * accuracy. It is refused with 10 wherever the whole table is.
+ */
+size_t yulanbowls_entry(size_t reading, size_t n,
+                        const double *sheet, size_t sheet_length,
+                        size_t i, size_t j,
+                        double *seconds, size_t *row, size_t *column);
+
+/*
+ * Reads a sheet file that is in memory. Accepted: `*reading` and `*n` are those of its head, the first n * n
+ * places of `area` hold its numbers row by row, and later places are unchanged. The numbers are not judged:
+ * that is for the calls above. A NaN of the file becomes a NaN, whose bits may differ; every other number
+ * keeps its bits.
+ */
+size_t yulanbowls_read_numbers(const uint8_t *bytes, size_t bytes_length,
+                               double *area, size_t area_length,
+                               size_t *reading, size_t *n, size_t *row, size_t *column);
+
+/* The same into 64-bit words, which keep the bits of every number, of a NaN too. */
+size_t yulanbowls_read_words(const uint8_t *bytes, size_t bytes_length,
+                             uint64_t *area, size_t area_length,
+                             size_t *reading, size_t *n, size_t *row, size_t *column);
+
+/*
+ * The text that the dwell program prints for a sheet file: its table or its refusal. The text stands at the
+ * start of `text`, with no zero byte at its end; later bytes are unchanged. Returns the text's length. If
+ * `text_length` is below YULANBOWLS_TEXT_BYTES the call returns 0 and changes nothing.
+ * dwell judges at most YULANBOWLS_FILE_BYTES + 1 bytes of its input; this call judges all that it is lent.
+ */
+size_t yulanbowls_report(const uint8_t *bytes, size_t bytes_length,
+                         uint8_t *text, size_t text_length);
+
+#ifdef __cplusplus
+}
+#endif
+
+#endif

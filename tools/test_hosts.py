@@ -1,0 +1,526 @@
+#!/usr/bin/env python3
+"""Tests of the library for hosts; run by `python3 tools/test_hosts.py`.
+
+Builds target/staticlib/libhosts.a by `rt staticlib hosts`, links it into a shared object and calls every
+export through ctypes, with the parameters in the order in which include/yulanbowls.h declares them.  The
+environment variable CC names the C compiler.  Expected values come from the reference alone.  Every lent
+area and place stands between guards and holds other bits before the call, so that a place that is written
+or left against the promise is noticed.
+"""
+from __future__ import annotations
+
+import ctypes
+import os
+import random
+import re
+import shlex
+import shutil
+import struct
+import subprocess
+import sys
+import tempfile
+import threading
+import unittest
+from pathlib import Path
+from typing import NamedTuple, Optional, Sequence
+
+ROOT = Path(__file__).resolve().parent.parent
+HEADER = ROOT / "include" / "yulanbowls.h"
+ARCHIVE = ROOT / "target" / "staticlib" / "libhosts.a"
+CC = shlex.split(os.environ.get("CC", "cc"))
+STRICT = ["-Wall", "-Wextra", "-pedantic", "-Werror", "-I", str(ROOT / "include")]
+TEXT_BYTES = 32768
+PLACES = 1024
+NAN, INF = float("nan"), float("inf")
+
+sys.dont_write_bytecode = True
+sys.path.insert(0, str(ROOT / "tools"))
+import reference  # noqa: E402
+from reference import Loaded, Refused, Table, bits_of, number_of  # noqa: E402
+
+
+# ==== The library ====
+
+class Built:
+    """What is built once for all tests."""
+    folder: tempfile.TemporaryDirectory[str]
+    library: ctypes.CDLL
+    parameters: dict[str, list[str]]
+
+
+def run(*command: str, stdin: bytes = b"") -> subprocess.CompletedProcess[bytes]:
+    """Runs a command in the repository."""
+    return subprocess.run(command, input=stdin, stdout=subprocess.PIPE, stderr=subprocess.STDOUT, cwd=ROOT,
+                          check=False)
+
+
+def must(*command: str) -> None:
+    """Runs a command that has to succeed."""
+    done = run(*command)
+    if done.returncode != 0:
+        raise RuntimeError(f"{shlex.join(command)} failed:\n{done.stdout.decode()}")
+
+
+def declared() -> dict[str, list[str]]:
+    """The functions that the header declares, with the names of their parameters in order."""
+    text = re.sub(r"/\*.*?\*/", "", HEADER.read_text(), flags=re.DOTALL)
+    found = re.findall(r"\bsize_t (\w+)\(([^)]*)\);", text)
+    return {name: [re.findall(r"\w+", part)[-1] for part in parts.split(",")] for name, parts in found}
+
+
+def setUpModule() -> None:
+    """Builds the archive and a shared object of it."""
+    must("rt", "staticlib", "hosts")
+    Built.folder = tempfile.TemporaryDirectory()
+    shared = str(Path(Built.folder.name) / "libhosts.so")
+    must(*CC, "-shared", "-Wl,--whole-archive", str(ARCHIVE), "-Wl,--no-whole-archive", "-o", shared)
+    Built.library = ctypes.CDLL(shared)
+    Built.parameters = declared()
+
+
+def tearDownModule() -> None:
+    """Removes what was built outside the repository's target folder."""
+    Built.folder.cleanup()
+
+
+def call(name: str, **arguments: int) -> int:
+    """Calls an export, each argument at its parameter's place in the header; pointers are addresses."""
+    function = getattr(Built.library, name)
+    function.restype = ctypes.c_size_t
+    order = Built.parameters[name]
+    if set(order) != set(arguments):
+        raise TypeError(f"{name} takes {order}")
+    return function(*(ctypes.c_size_t(arguments[parameter]) for parameter in order))
+
+
+class Lent:
+    """A lent area, or one place, of 64-bit words or of bytes, between guards."""
+    GUARD = list(b"guarded!")
+
+    def __init__(self, content: Sequence[int], word: type = ctypes.c_uint64) -> None:
+        self.length = len(content)
+        self.memory = (word * (self.length + 2 * len(self.GUARD)))(*self.GUARD, *content, *self.GUARD)
+        self.address = ctypes.addressof(self.memory) + len(self.GUARD) * ctypes.sizeof(word)
+
+    def after(self) -> list[int]:
+        """What the area holds now; the guards are checked."""
+        memory, start = list(self.memory), len(self.GUARD)
+        if memory[:start] != self.GUARD or memory[start + self.length:] != self.GUARD:
+            raise AssertionError("a place outside the lent area was written")
+        return memory[start:start + self.length]
+
+
+def other_words(rng: random.Random, count: int) -> list[int]:
+    """Words that stand in an area before a call: any bits, NaN patterns among them."""
+    return [rng.choice([rng.getrandbits(64), 0x7ff0000000000001 + rng.getrandbits(40)]) for _ in range(count)]
+
+
+def told(answer: object) -> tuple[int, int, int]:
+    """Number, row and column of an answer of the reference: zeros where it is no refusal."""
+    return (answer.number, answer.row, answer.column) if isinstance(answer, Refused) else (0, 0, 0)
+
+
+class HostTest(unittest.TestCase):
+    """A test with random numbers of its own and the calls, each compared with the reference."""
+
+    def setUp(self) -> None:
+        """Starts the random numbers anew."""
+        self.rng = random.Random(20240607)
+
+    def places(self, count: int) -> list[Lent]:
+        """Out places, each with other bits in it."""
+        return [Lent(other_words(self.rng, 1)) for _ in range(count)]
+
+    def table(self, reading: int, n: int, sheet: Sequence[float],
+              room: Optional[int] = None) -> tuple[int, int, int]:
+        """The whole table of a sheet with an area of so many places (n × n if not said)."""
+        words, before = [bits_of(x) for x in sheet], other_words(self.rng, n * n if room is None else room)
+        numbers, area = Lent(words), Lent(before)
+        allowance, row, column = self.places(3)
+        number = call("yulanbowls_table", reading=reading, n=n, sheet=numbers.address, sheet_length=len(sheet),
+                      answer=area.address, answer_length=len(before), allowance=allowance.address,
+                      row=row.address, column=column.address)
+        answer = reference.table(reading, n, sheet, len(before))
+        entries = [bits_of(x) for x in answer.entries] if isinstance(answer, Table) else []
+        what = f"reading {reading}, n {n}, room {len(before)}, sheet {sheet}"
+        self.assertEqual((number, *row.after(), *column.after()), told(answer), what)
+        self.assertEqual(allowance.after(), [answer.allowance if isinstance(answer, Table) else 0], what)
+        self.assertEqual(area.after(), entries + before[len(entries):], what)
+        self.assertEqual(numbers.after(), words, what)
+        return told(answer)
+
+    def entry(self, reading: int, n: int, sheet: Sequence[float], i: int, j: int) -> tuple[int, int, int]:
+        """Entry (i, j) of a sheet."""
+        words = [bits_of(x) for x in sheet]
+        numbers = Lent(words)
+        seconds, row, column = self.places(3)
+        number = call("yulanbowls_entry", reading=reading, n=n, sheet=numbers.address, sheet_length=len(sheet),
+                      i=i, j=j, seconds=seconds.address, row=row.address, column=column.address)
+        answer = reference.entry(reading, n, sheet, i, j)
+        what = f"reading {reading}, n {n}, entry {i} {j}, sheet {sheet}"
+        self.assertEqual((number, *row.after(), *column.after()), told(answer), what)
+        self.assertEqual(seconds.after(), [0 if isinstance(answer, Refused) else bits_of(answer.value)], what)
+        self.assertEqual(numbers.after(), words, what)
+        return told(answer)
+
+    def sheet(self, reading: int, n: int, sheet: Sequence[float]) -> tuple[int, int, int]:
+        """The whole table of a sheet, and its first and last entry, which is refused alike."""
+        answer = self.table(reading, n, sheet)
+        self.assertEqual(self.entry(reading, n, sheet, 1, n), answer)
+        self.assertEqual(self.entry(reading, n, sheet, n, 1), answer)
+        return answer
+
+    def same_number(self, got: int, word: int) -> None:
+        """A number that was read has the file's bits; for a NaN it is some NaN."""
+        if number_of(word) != number_of(word):
+            self.assertNotEqual(number_of(got), number_of(got))
+        else:
+            self.assertEqual(got, word)
+
+    def file(self, data: bytes, room: int = PLACES) -> tuple[int, int, int]:
+        """A file read into numbers and into words, each with an area of so many places."""
+        answer = reference.load(data, room)
+        words = answer.words if isinstance(answer, Loaded) else []
+        head = [answer.reading, answer.n] if isinstance(answer, Loaded) else [0, 0]
+        for name in ("yulanbowls_read_numbers", "yulanbowls_read_words"):
+            before = other_words(self.rng, room)
+            source, area = Lent(data, ctypes.c_uint8), Lent(before)
+            reading, n, row, column = self.places(4)
+            number = call(name, bytes=source.address, bytes_length=len(data), area=area.address,
+                          area_length=room, reading=reading.address, n=n.address, row=row.address,
+                          column=column.address)
+            self.assertEqual((number, *row.after(), *column.after()), told(answer), name)
+            self.assertEqual(reading.after() + n.after(), head, name)
+            after = area.after()
+            self.assertEqual(after[len(words):], before[len(words):], name)
+            if name == "yulanbowls_read_words":
+                self.assertEqual(after[:len(words)], words)
+            for got, word in zip(after, words):
+                self.same_number(got, word)
+            self.assertEqual(source.after(), list(data), name)
+        return told(answer)
+
+    def report(self, data: bytes, room: int = TEXT_BYTES) -> bytes:
+        """The report on a file in an area of so many bytes."""
+        before = [self.rng.getrandbits(8) for _ in range(room)]
+        source, area = Lent(data, ctypes.c_uint8), Lent(before, ctypes.c_uint8)
+        length = call("yulanbowls_report", bytes=source.address, bytes_length=len(data), text=area.address,
+                      text_length=room)
+        expected = report_text(data) if room >= TEXT_BYTES else b""
+        self.assertEqual(length, len(expected))
+        self.assertEqual(area.after(), list(expected) + before[len(expected):])
+        self.assertEqual(source.after(), list(data))
+        return expected
+
+
+def report_text(data: bytes) -> bytes:
+    """What a report on all these bytes is; dwell itself looks at no more than a longest file and a byte."""
+    answer = reference.load(data, PLACES)
+    return (reference.refused_line(answer) if isinstance(answer, Refused) else reference.dwell(data)).encode()
+
+
+# ==== Sheets and files ====
+
+class Sheet(NamedTuple):
+    """A sheet of the documents, or one beside an edge of a question."""
+    reading: int
+    n: int
+    numbers: list[float]
+
+
+SMALLEST = 2.0 ** -1022
+SHEETS = [
+    Sheet(1, 1, [2.0]), Sheet(1, 1, [0.0]), Sheet(1, 2, [1.0, -1.0, -1.0, 0.0]), Sheet(1, 2, [0.0, -1.0, -1.0, 0.0]),
+    Sheet(1, 2, [1.0, 0.0, 0.0, 0.0]), Sheet(1, 1, [2.0 ** 1021]), Sheet(1, 1, [2.0 ** 1022]), Sheet(2, 1, [0.0]),
+    Sheet(2, 2, [3.0, -1.0, -4.0, 1.0]), Sheet(2, 2, [2.0, 0.0, -1.0, 4.0]), Sheet(1, 2, [1.0, NAN, 5.0, 1.0]),
+    Sheet(1, 1, [3.0]), Sheet(1, 1, [-0.0]), Sheet(2, 1, [-0.0]), Sheet(1, 2, [1.0, -0.0, -0.0, 1.0]),
+    Sheet(1, 2, [5.0, 1.0, NAN, 1.0]), Sheet(1, 2, [1.0, 0.0, 0.0, INF]), Sheet(2, 1, [-INF]),
+    Sheet(1, 2, [1.0, 0.0, 0.5, 1.0]), Sheet(1, 2, [1.0, 0.0, 0.0, -1.0]), Sheet(2, 1, [-1.0]),
+    Sheet(1, 2, [1.0, -2.0 ** -1074, 0.0, 1.0]), Sheet(1, 2, [1.0, -SMALLEST, 0.0, 1.0]),
+    Sheet(1, 2, [1.0, -SMALLEST, 0.0, 2.0 ** -10]), Sheet(2, 2, [1.0, 0.0, 0.0, 2.0 ** -1074]),
+    Sheet(1, 2, [1.0, 0.0, 0.0, 2.0 ** 1022]), Sheet(2, 2, [3.0, -1.0, 0.0, 1.0]), Sheet(2, 2, [1.0, -5.0, 0.0, 1.0]),
+    Sheet(2, 2, [4.0, -3.0, -1.0, 1.0]), Sheet(2, 2, [5.0, 0.0, -3.0, 1.0]), Sheet(2, 2, [SMALLEST, -1.0, 0.0, 1.0]),
+    Sheet(2, 3, [1.0, 0.0, -1.0, 0.0, SMALLEST, -1.0, 0.0, 0.0, 1.0]),
+]
+
+
+def random_sheets(rng: random.Random, stages: Sequence[int], widest: int = 300) -> list[Sheet]:
+    """A random sheet of each reading for each number of stages."""
+    return [Sheet(reading, n, reference.random_sheet(rng, reading, n, reference.random_style(rng, widest)))
+            for n in stages for reading in (1, 2)]
+
+
+def file_of(sheet: Sheet) -> bytes:
+    """The sheet file of a sheet."""
+    return reference.make_file(*sheet)
+
+
+def good_files(rng: random.Random) -> list[bytes]:
+    """Files of every small size and of the longest, with words of all kinds."""
+    files = [file_of(sheet) for sheet in SHEETS + random_sheets(rng, [1, 2, 3, 5, 8, 32])]
+    for n in (1, 4, 32):
+        files.append(reference.make_file_words(rng.choice([1, 2]), n, other_words(rng, n * n)))
+    return files
+
+
+def bad_files() -> list[bytes]:
+    """Files that are refused, each for another reason."""
+    whole = file_of(Sheet(1, 2, [1.0, -1.0, -1.0, 0.0]))
+    head, rows = whole[:10], whole[10:]
+    row = len(rows) // 2
+    files = [b"", whole[:5], whole[:6], whole[:9], head, head + rows[:5], head + rows[:row - 1], whole[:-1],
+             whole + b"\0", whole + bytes(9000), struct.pack("<IH", 9000, 2) + bytes(10000), rows, head + head + rows,
+             head + rows[row:] + rows[:row], head + rows[:row] + rows[:row]]
+    for at, form, value in [(0, "<I", 5), (0, "<I", 2 ** 32 - 1), (4, "<H", 2), (6, "<H", 0), (6, "<H", 3),
+                            (8, "<H", 0), (8, "<H", 33), (10, "<I", 0), (10, "<I", 17), (14, "<H", 1), (16, "<H", 2),
+                            (16, "<H", 0), (10 + row, "<I", 19), (16 + row, "<H", 1)]:
+        changed = bytearray(whole)
+        struct.pack_into(form, changed, at, value)
+        files.append(bytes(changed))
+    return files
+
+
+# ==== The tests ====
+
+class TableTest(HostTest):
+    """The whole table, with the entry beside it."""
+
+    def test_known_sheets(self) -> None:
+        """The documents' sheets, and sheets beside an edge; all of 6 to 10 come up."""
+        numbers = {self.sheet(*sheet)[0] for sheet in SHEETS}
+        self.assertEqual(numbers, {0, 6, 7, 8, 9, 10})
+
+    def test_random_sheets(self) -> None:
+        """Random sheets of every size, of which most are accepted."""
+        sheets = random_sheets(self.rng, range(1, 33), 30) + random_sheets(self.rng, [1, 2, 3, 4, 5, 6, 7] * 12)
+        accepted = [sheet.reading for sheet in sheets if self.sheet(*sheet) == (0, 0, 0)]
+        self.assertGreater(min(accepted.count(1), accepted.count(2)), 40)
+
+    def test_edge_of_the_range(self) -> None:
+        """Pairs of sheets one last place apart, of which one is accepted and the other is 10."""
+        found = 0
+        for sheet in random_sheets(self.rng, [1, 2, 3, 4] * 12):
+            pair = reference.edge_pair(self.rng, *sheet)
+            if pair is not None:
+                found += 1
+                self.assertEqual(self.sheet(sheet.reading, sheet.n, pair[0]), (0, 0, 0))
+                self.assertEqual(self.sheet(sheet.reading, sheet.n, pair[1]), (10, 0, 0))
+        self.assertGreater(found, 20)
+
+    def test_one_bad_number(self) -> None:
+        """A random sheet with one number spoilt, anywhere."""
+        for sheet in random_sheets(self.rng, [2, 3, 7, 32], 30) * 6:
+            numbers = list(sheet.numbers)
+            at = self.rng.randrange(len(numbers))
+            numbers[at] = self.rng.choice([NAN, INF, -INF, 1.0, -1.0, 2.0 ** -1074, -2.0 ** -1074, -0.0])
+            self.sheet(sheet.reading, sheet.n, numbers)
+
+    def test_lengths(self) -> None:
+        """Sheets and areas that are too short, right, too long or empty; later places stay as they are."""
+        for sheet in random_sheets(self.rng, [1, 2, 5, 32], 3):
+            needed = sheet.n * sheet.n
+            for room in (0, needed - 1, needed, needed + 1, needed + 50, PLACES + 7):
+                self.table(*sheet, room)
+            for numbers in ([], sheet.numbers[:-1], sheet.numbers + [0.0]):
+                self.assertEqual(self.table(sheet.reading, sheet.n, numbers), (3, 0, 0))
+                self.assertEqual(self.table(sheet.reading, sheet.n, numbers, 0), (3, 0, 0))
+        self.assertEqual(self.table(1, 1, [NAN], 0), (4, 0, 0))
+
+    def test_reading_and_size(self) -> None:
+        """Readings and sizes out of range, also those at which n × n would not fit a word."""
+        for reading in (0, 3, 2 ** 63, 2 ** 64 - 1):
+            self.assertEqual(self.table(reading, 0, [], 0), (1, 0, 0))
+            self.assertEqual(self.table(reading, 1, [1.0], 1), (1, 0, 0))
+        for n in (0, 33, 2 ** 32, 2 ** 63, 2 ** 64 - 1):
+            for reading in (1, 2):
+                self.assertEqual(self.table(reading, n, [NAN], 0), (2, 0, 0))
+                self.assertEqual(self.table(reading, n, [], 5), (2, 0, 0))
+        self.assertEqual(self.table(1, 33, [1.0] * 1089, 1089), (2, 0, 0))
+
+    def test_bits_of_nan(self) -> None:
+        """NaN patterns of every kind are 6."""
+        for word in (0x7ff0000000000001, 0x7ff8000000000000, 0xffffffffffffffff, 0xfff0000000000001):
+            self.assertEqual(self.table(1, 1, [number_of(word)]), (6, 1, 1))
+
+
+class EntryTest(HostTest):
+    """One entry."""
+
+    def test_every_entry(self) -> None:
+        """Every entry of random sheets has the bits of the table."""
+        for sheet in random_sheets(self.rng, [1, 2, 3, 4, 6], 30) * 2:
+            for i in range(1, sheet.n + 1):
+                for j in range(1, sheet.n + 1):
+                    self.entry(*sheet, i, j)
+
+    def test_stages(self) -> None:
+        """Stages out of range are 5, after 3 and before 6."""
+        for sheet in random_sheets(self.rng, [1, 3, 32], 3):
+            for bad in (0, sheet.n + 1, 2 ** 63, 2 ** 64 - 1):
+                self.assertEqual(self.entry(*sheet, bad, 1), (5, 0, 0))
+                self.assertEqual(self.entry(*sheet, 1, bad), (5, 0, 0))
+        self.assertEqual(self.entry(1, 1, [NAN], 2, 1), (5, 0, 0))
+        self.assertEqual(self.entry(1, 1, [], 2, 1), (3, 0, 0))
+
+    def test_reading_and_size(self) -> None:
+        """Readings and sizes out of range."""
+        for reading in (0, 3, 2 ** 64 - 1):
+            self.assertEqual(self.entry(reading, 0, [], 0, 0), (1, 0, 0))
+        for n in (0, 33, 2 ** 32, 2 ** 63, 2 ** 64 - 1):
+            self.assertEqual(self.entry(2, n, [NAN], 0, 0), (2, 0, 0))
+
+
+class FileTest(HostTest):
+    """File reading, into numbers and into words."""
+
+    def test_good_files(self) -> None:
+        """Files that are read, with room enough, just enough and too little."""
+        for data in good_files(self.rng):
+            n = struct.unpack_from("<H", data, 8)[0]
+            for room in (PLACES + 3, n * n + 1, n * n):
+                self.assertEqual(self.file(data, room), (0, 0, 0))
+            for room in (n * n - 1, 0):
+                self.assertEqual(self.file(data, room), (4, 0, 0))
+
+    def test_bad_files(self) -> None:
+        """Files that are refused, each with room and without; all of 11 to 14 come up."""
+        numbers = {self.file(data, room)[0] for data in bad_files() for room in (PLACES, 0)}
+        self.assertEqual(numbers, {11, 12, 13, 14})
+
+    def test_cut_and_changed_files(self) -> None:
+        """A file cut anywhere, and one with any byte changed."""
+        data = file_of(Sheet(2, 3, [2.0, 0.0, -1.0, 0.0, 4.0, 0.0, 0.0, 0.0, 1.0]))
+        for at in range(len(data)):
+            self.file(data[:at])
+            self.file(data[:at] + bytes([data[at] ^ 1 << self.rng.randrange(8)]) + data[at + 1:])
+
+
+class ReportTest(HostTest):
+    """The text that dwell prints."""
+
+    def test_texts(self) -> None:
+        """Good and bad files, in areas of the least length and longer."""
+        words = set()
+        for data in good_files(self.rng) + bad_files():
+            words.add(self.report(data).split()[0])
+            self.report(data, TEXT_BYTES + 77)
+        self.assertEqual(words, {b"seconds", b"refused"})
+
+    def test_as_dwell(self) -> None:
+        """On the bytes that dwell judges the text is dwell's, also of a longer file."""
+        for data in good_files(self.rng)[:8] + bad_files():
+            judged = data[:reference.LONGEST_FILE + 1]
+            self.assertEqual(self.report(judged), reference.dwell(data).encode())
+
+    def test_short_areas(self) -> None:
+        """An area that is too short is left alone."""
+        data = file_of(SHEETS[0])
+        for room in (0, 1, 100, TEXT_BYTES - 1):
+            self.assertEqual(self.report(data, room), b"")
+            self.assertEqual(self.report(b"", room), b"")
+
+
+class ThreadTest(HostTest):
+    """Calls in several threads at the same time."""
+
+    def test_threads(self) -> None:
+        """Each thread gets the answers of its own sheets, several times over."""
+        sheets = random_sheets(self.rng, [4, 9, 16], 30)
+        failures: list[Exception] = []
+
+        def work(mine: Sheet) -> None:
+            try:
+                for _ in range(8):
+                    self.table(*mine)
+                    self.file(file_of(mine))
+            except Exception as failure:
+                failures.append(failure)
+
+        threads = [threading.Thread(target=work, args=(sheet,)) for sheet in sheets]
+        for thread in threads:
+            thread.start()
+        for thread in threads:
+            thread.join()
+        self.assertEqual(failures, [])
+
+
+class LinkTest(HostTest):
+    """The header, the archive's symbols and the example."""
+
+    def build(self, source: str, compiler: Sequence[str], *words: str) -> str:
+        """Compiles a source and links it with the archive, warnings being errors."""
+        program = str(Path(Built.folder.name) / f"{Path(source).stem}-{len(os.listdir(Built.folder.name))}")
+        must(*compiler, *words, *STRICT, source, str(ARCHIVE), "-o", program)
+        return program
+
+    def test_symbols(self) -> None:
+        """The archive defines what the header declares, keeps no data, and needs two functions of C's."""
+        symbols = re.findall(r"^[0-9a-f ]{16} (\w) (\S+)$", run("nm", str(ARCHIVE)).stdout.decode(), re.MULTILINE)
+        self.assertEqual({name for kind, name in symbols if kind == "T"}, set(declared()))
+        self.assertLessEqual({name for kind, name in symbols if kind == "U"}, {"memcpy", "memset"})
+        self.assertEqual({kind for kind, _ in symbols} & set("BDCbd"), set())
+
+    def test_constants(self) -> None:
+        """The header's sizes are the documents'."""
+        constants = dict(re.findall(r"#define YULANBOWLS_(\w+) (\d+)", HEADER.read_text()))
+        self.assertEqual({name: int(value) for name, value in constants.items()},
+                         {"STAGES": reference.LIMIT, "NUMBERS": reference.LIMIT ** 2,
+                          "FILE_BYTES": reference.LONGEST_FILE, "TEXT_BYTES": TEXT_BYTES})
+
+    def test_cxx(self) -> None:
+        """The header serves C++ too."""
+        compiler = shutil.which("c++")
+        if compiler is None:
+            self.skipTest("no C++ compiler")
+        source = Path(Built.folder.name) / "twice.cc"
+        source.write_text('#include "yulanbowls.h"\n#include "yulanbowls.h"\nint main() {\n'
+                          "  unsigned char bytes[2] = {0, 0};\n"
+                          "  return static_cast<int>(yulanbowls_report(bytes, 1, bytes + 1, 1));\n}\n")
+        self.assertEqual(run(self.build(str(source), [compiler])).returncode, 0)
+
+    def printed(self, data: bytes) -> tuple[int, str]:
+        """What the example prints for a file, by the reference, and its exit status."""
+        judged = data[:reference.LONGEST_FILE + 1]
+        loaded = reference.load(judged, PLACES)
+        if isinstance(loaded, Refused):
+            return 1, reference.refused_line(loaded)
+        n, numbers = loaded.n, loaded.numbers
+        answer = reference.table(loaded.reading, n, numbers, PLACES)
+        if isinstance(answer, Refused):
+            return 1, reference.refused_line(answer)
+        rows = [" ".join(f"{x:.17g}" for x in answer.entries[i * n:(i + 1) * n]) for i in range(n)]
+        last = reference.entry(loaded.reading, n, numbers, 1, n)
+        return 0, "".join(f"{line}\n" for line in [
+            *rows, f"each within a factor (1 + 2^-53)^{answer.allowance} of the exact number",
+            f"stage 1 to stage {n}: {last.value:.17g} seconds"])
+
+    def test_example(self) -> None:
+        """examples/host.c compiles as C99 without a warning, and prints tables and refusals."""
+        host = self.build(str(ROOT / "examples" / "host.c"), CC, "-std=c99")
+        sheet = Path(Built.folder.name) / "line.sheet"
+        for data in good_files(self.rng) + bad_files():
+            status, text = self.printed(data)
+            sheet.write_bytes(data)
+            for done in (run(host, str(sheet)), run(host, stdin=data)):
+                self.assertEqual((done.returncode, done.stdout.decode()), (status, text))
+
+    def test_example_misused(self) -> None:
+        """The example tells a file that is not there, and too many words."""
+        host = self.build(str(ROOT / "examples" / "host.c"), CC, "-std=c99")
+        self.assertEqual(run(host, "no/such/file").returncode, 2)
+        self.assertEqual(run(host, "a", "b").stdout, b"usage: host [FILE]\n")
+
+
+def main() -> int:
+    """Runs all tests; the exit status."""
+    suite = unittest.defaultTestLoader.loadTestsFromModule(sys.modules[__name__])
+    result = unittest.TextTestRunner(stream=sys.stdout).run(suite)
+    if result.wasSuccessful():
+        print(f"hosts: all {result.testsRun} tests passed ({shlex.join(CC)})")
+    else:
+        print(f"hosts: FAILED, {len(result.failures) + len(result.errors)} of {result.testsRun} tests")
+    return 0 if result.wasSuccessful() else 1
+
+
+if __name__ == "__main__":
+    sys.exit(main())
