@@ -1,15 +1,14 @@
--- The laws behind the steps on b, as table operations.
+-- The rows of the identity, as table operations.
 use mathlib.Core.Path.{_≡_, refl, sym, ap, _∙_, fun-ext}
 use Prim.Native.Nat.{ℕ, _<_}
 use native.Mathlib.Omega.{arith}
-use mathlib.Core.Bool.{Bool}
 use mathlib.Core.List.{List}
 use lib.Ieee.{Float}
 use borrow.Author.Tests.{eq-eqb, ne-eqb}
 use Rattle.definitions.specs.Numbers.{0·0, 1·0}
-use Rattle.elimination.specs.Places.{table32, Holds, Gives}
+use Rattle.elimination.specs.Places.{table32, Holds}
 use Rattle.elimination.specs.Operators.{replace, between, put, span}
-use Rattle.elimination.specs.Steps.{identityRow, rowsAdded, rowsAddedInRange}
+use Rattle.elimination.specs.Steps.{identityRow}
 use Rattle.elimination.proofs.Cases.{by-equal, by-order}
 use Rattle.elimination.proofs.Operators.{replace-same, replace-other, between-in, between-past, put-replaced}
 
@@ -44,10 +43,3 @@ row-of-identity i r f l h k =
           ∙ put-replaced i i 1·0 (between 0 r (λ _. 0·0) (f i)) f
           ∙ ap (λ (row : ℕ → Float). replace i row f) (unit-row i r (f i) l);
     }
-
--- An upward stage by its number.
-pub upward-stage : (r : ℕ) (g f : ℕ → ℕ → Float) {k k' : ℕ} {ok : Bool} {xs : List Float}
-    → Gives ok (rowsAddedInRange k 0 k r g f) xs (rowsAdded k 0 k r g f)
-    → k ≡ k'
-    → Gives ok (rowsAddedInRange k' 0 k' r g f) xs (rowsAdded k' 0 k' r g f)
-upward-stage r g f h e = rw e at h

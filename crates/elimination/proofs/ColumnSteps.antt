@@ -80,6 +80,13 @@ pub identity-inside : (r : ℕ) (f : ℕ → ℕ → Float) (i j : ℕ) → i < 
 unfolding identityRows identityRow
 identity-inside r f i j l m = rows-inside r identityRow f i j l m
 
+-- The upward stages of rows up to i keep row i.
+pub up-keeps : (r : ℕ) (g f : ℕ → ℕ → Float) (i j q d : ℕ) → r ≤ suc i + q → upDone r g f (q + d) i j ≡ upDone r g f q i j
+unfolding upDone
+up-keeps r g f i j q zero l = rw (add-zero q)
+up-keeps r g f i j q (suc d) l =
+    rw (add-suc q d) (not-added (r - suc (q + d)) 0 (r - suc (q + d)) r g (upDone r g f (q + d)) i j (λ a b. omega arith) ∙ up-keeps r g f i j q d l)
+
 -- Over the systems as the stages begin, with their pivots and multipliers in the table g.
 module _ (r : ℕ) (at : ℕ → System) (g : ℕ → ℕ → Float) (h : Multipliers r at g) where
   -- Downward, from the identity.
@@ -116,16 +123,11 @@ module _ (r : ℕ) (at : ℕ → System) (g : ℕ → ℕ → Float) (h : Multip
         ∙ step-same (up-row q i j (omega arith) n) (h .above (r - suc q) i (omega arith) (omega arith)) (up-row q (r - suc q) j (omega arith) n)
         ∙ sym (upward-step r at j q i (omega arith))
 
-    up-keeps : (i j q d : ℕ) → r ≤ suc i + q → upDone r g f (q + d) i j ≡ upDone r g f q i j
-    unfolding upDone
-    up-keeps i j q zero l = rw (add-zero q)
-    up-keeps i j q (suc d) l = rw (add-suc q d) (not-added (r - suc (q + d)) 0 (r - suc (q + d)) r g (upDone r g f (q + d)) i j (λ a b. omega arith) ∙ up-keeps i j q d l)
-
     pub up-end : (i j : ℕ) → i < r → j < r → upDone r g f r i j ≡ solved r at j i
     unfolding solved
     up-end i j l m =
         let e : r - suc i + suc i ≡ r = omega arith in
-        (rw e at (up-keeps i j (r - suc i) (suc i) (omega arith))) ∙ up-row (r - suc i) i j (omega arith) m
+        (rw e at (up-keeps r g f i j (r - suc i) (suc i) (omega arith))) ∙ up-row (r - suc i) i j (omega arith) m
 
   -- The last division.
   pub last-end : (f : ℕ → ℕ → Float) → ((i j : ℕ) → i < r → j < r → f i j ≡ solved r at j i) → (i j : ℕ) → i < r → j < r → dividedRows r r g f i j ≡ quotient r at i j

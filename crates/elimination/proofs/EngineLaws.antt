@@ -4,18 +4,34 @@ use Prim.Native.Nat.{ℕ, _≤_, _<_}
 use native.Mathlib.Omega.{arith}
 use mathlib.Core.Bool.{Bool, _&&_, cond}
 use mathlib.Core.List.{List}
-use lib.Dec.{eqb}
+use lib.Dec.{T, eqb}
 use lib.Ieee.{Float}
-use Rattle.definitions.specs.Numbers.{0·0, 1·0}
+use Rattle.definitions.specs.Numbers.{0·0, 1·0, all}
 use Rattle.definitions.specs.LeavingRates.{System, downward, b↓, solved, inRange}
 use Rattle.elimination.specs.Places.{table32, at32, systemIn, systemOf, Holds, Gives}
-use Rattle.elimination.specs.Steps.{stagesDone, stagesInRange, upwardRows, multipliersInRange, identityRows, downDone, downInRange, upDone, upInRange, dividedRows, quotientsInRange}
+use Rattle.elimination.specs.Steps.{stagesDone, stagesInRange, upwardRows, multipliersInRange, rowMultipliersInRange, identityRows, downDone, downInRange, upDone, upInRange, dividedRows, quotientsInRange}
 use Rattle.elimination.specs.Contracts.{Multipliers, Keeps, Shared, Solved}
+use Rattle.elimination.specs.Told.{Told, Finds, FiniteTable}
 use Rattle.elimination.proofs.Places.{table-at}
+use Rattle.elimination.proofs.Flags.{same-truth, both, both-left, both-right}
 use Rattle.elimination.proofs.Same.{Same, downward-same, p-same, m↓-same, m↑-same, shared-same}
-use Rattle.elimination.proofs.SharedLaws.{shared-test, multipliers, outside-kept}
+use Rattle.elimination.proofs.SharedLaws.{shared-test, row-by-row, multipliers, outside-kept}
 use Rattle.elimination.proofs.ColumnSteps.{identity-inside, identity-outside, down-end, down-outside, up-end, up-outside, last-end, last-outside}
+use Rattle.elimination.proofs.FiniteColumns.{up-start-finite, dividends-finite}
 use Rattle.elimination.proofs.ColumnTests.{down-test, up-test, last-test, columns-test}
+
+-- The last test is the document's, and finds the results of the one before it finite, as do those the results of the first.
+told-backwards : {down up last d u q : Bool} {F G : Type 0} → Told down d F → Told up u G → last ≡ q → (G → F) → (T q → G) → (down && up && last) ≡ (d && u && q)
+told-backwards {down} {up} {last} {d} {u} {q} h k e f g =
+    rw e
+    (same-truth (down && up && q) (d && u && q)
+    (λ t.
+    let l = both-left (down && up) q t in
+    let z = both-right (down && up) q t in
+    both (d && u) q (both d u (h .tells (f (g z)) (both-left down up l)) (k .tells (g z) (both-right down up l))) z)
+    (λ t.
+    let l = both-left (d && u) q t in
+    both (down && up) q (both down up (h .passes (both-left d u l)) (k .passes (both-right d u l))) (both-right (d && u) q t)))
 
 module _ (r : ℕ) (small : r ≤ 32) where
   -- The table of a list and its places are one system.
@@ -50,18 +66,17 @@ module _ (r : ℕ) (small : r ≤ 32) where
 
   pub shared-gives : (xs : List Float) {ys zs : List Float} {down up : Bool}
       → Gives down (stagesInRange r (table32 xs) r) ys (stagesDone r (table32 xs) r)
-      → up ≡ multipliersInRange r (table32 ys)
-      → Holds zs (upwardRows r r (table32 ys))
+      → Gives up (all (rowMultipliersInRange r (table32 ys)) 0 r) zs (upwardRows r r (table32 ys))
       → Shared r xs zs (down && up)
-  shared-gives xs {ys} {zs} g e h =
+  shared-gives xs {ys} {zs} g h =
       let f = table32 xs in
-      let q : table32 zs ≡ upwardRows r r (stagesDone r f r) = h .is ∙ ap (upwardRows r r) (g .holds .is) in
+      let q : table32 zs ≡ upwardRows r r (stagesDone r f r) = h .holds .is ∙ ap (upwardRows r r) (g .holds .is) in
       record {
         range =
-            ap₂ (λ a b. a && b) (g .range) (e ∙ ap (multipliersInRange r) (g .holds .is))
+            ap₂ (λ a b. a && b) (g .range) (h .range ∙ row-by-row r (table32 ys) ∙ ap (multipliersInRange r) (g .holds .is))
             ∙ shared-test r f
             ∙ shared-same r (downward r (systemIn f)) (downward r (systemOf xs)) (same-system xs);
-        long = h .long;
+        long = h .holds .long;
         multipliers = as-places xs zs (rw q (multipliers r f));
         kept = keeps-places xs zs (λ i j o. rw q (outside-kept r f i j o));
       }
@@ -70,8 +85,8 @@ module _ (r : ℕ) (small : r ≤ 32) where
   module _ (t t' b : List Float) {ok : Bool} (s : Shared r t t' ok) where
     pub solve-gives : {b₁ b₂ b₃ b₄ : List Float} {down up last : Bool}
         → Holds b₁ (identityRows r r (table32 b))
-        → Gives down (downInRange r (table32 t') (table32 b₁) r) b₂ (downDone r (table32 t') (table32 b₁) r)
-        → Gives up (upInRange r (table32 t') (table32 b₂) r) b₃ (upDone r (table32 t') (table32 b₂) r)
+        → Finds down (downInRange r (table32 t') (table32 b₁) r) (FiniteTable r (downDone r (table32 t') (table32 b₁) r)) b₂ (downDone r (table32 t') (table32 b₁) r)
+        → Finds up (upInRange r (table32 t') (table32 b₂) r) (FiniteTable r (upDone r (table32 t') (table32 b₂) r)) b₃ (upDone r (table32 t') (table32 b₂) r)
         → Gives last (quotientsInRange r (table32 t') (table32 b₃)) b₄ (dividedRows r r (table32 t') (table32 b₃))
         → Solved r t b t' b₄ (ok && (down && up && last))
     unfolding inRange
@@ -85,7 +100,10 @@ module _ (r : ℕ) (small : r ≤ 32) where
         record {
           range =
               ap₂ (λ x y. x && y) (s .range)
-              (ap₂ (λ x y. x && y) (ap₂ (λ x y. x && y) (h₂ .range ∙ down-test r at g m (table32 b₁) e₁) (h₃ .range ∙ up-test r at g m (table32 b₂) e₂)) (h₄ .range ∙ last-test r at g m (table32 b₃) e₃)
+              (told-backwards (h₂ .told) (h₃ .told) (h₄ .range)
+              (λ f. rw (h₂ .holds .is) at (up-start-finite r g (table32 b₂) r f))
+              (λ q. rw (h₃ .holds .is) at (dividends-finite r g (table32 b₃) q))
+              ∙ ap₂ (λ x y. x && y) (ap₂ (λ x y. x && y) (down-test r at g m (table32 b₁) e₁) (up-test r at g m (table32 b₂) e₂)) (last-test r at g m (table32 b₃) e₃)
               ∙ columns-test r at);
           quotients = λ i j l k.
               sym (table-at 32 i j b₄ (omega arith) (omega arith))

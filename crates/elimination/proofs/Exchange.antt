@@ -20,6 +20,20 @@ triangle q r =
     (λ t. every (λ j. all (λ l. q l j) j (r - j)) 0 r (λ j a b. every (λ l. q l j) j (r - j) (λ l c d. each (q l) 0 (suc l) j (each (λ l. all (q l) 0 (suc l)) 0 r l t (omega arith) (omega arith)) a (omega arith))))
     (λ t. every (λ l. all (q l) 0 (suc l)) 0 r (λ l c d. every (q l) 0 (suc l) (λ j a b. each (λ l. q l j) j (r - j) l (each (λ j. all (λ l. q l j) j (r - j)) 0 r j t a (omega arith)) (omega arith) (omega arith))))
 
+-- Every i and every l whose sum is at most r - 2.
+pub corner : (q : ℕ → ℕ → Bool) (r : ℕ) → all (λ i. all (q i) 0 (r - suc i)) 0 r ≡ all (λ l. all (λ i. q i l) 0 (r - suc l)) 0 r
+corner q r =
+    same-truth (all (λ i. all (q i) 0 (r - suc i)) 0 r) (all (λ l. all (λ i. q i l) 0 (r - suc l)) 0 r)
+    (λ t. every (λ l. all (λ i. q i l) 0 (r - suc l)) 0 r (λ l a b. every (λ i. q i l) 0 (r - suc l) (λ i c d. each (q i) 0 (r - suc i) l (each (λ i. all (q i) 0 (r - suc i)) 0 r i t c (omega arith)) a (omega arith))))
+    (λ t. every (λ i. all (q i) 0 (r - suc i)) 0 r (λ i c d. every (q i) 0 (r - suc i) (λ l a b. each (λ i. q i l) 0 (r - suc l) i (each (λ l. all (λ i. q i l) 0 (r - suc l)) 0 r l t a (omega arith)) c (omega arith))))
+
+-- The same tests from the last to the first.
+pub reversed : (p : ℕ → Bool) (r : ℕ) → all (λ q. p (r - suc q)) 0 r ≡ all p 0 r
+reversed p r =
+    same-truth (all (λ q. p (r - suc q)) 0 r) (all p 0 r)
+    (λ t. every p 0 r (λ i a b. let e : r - suc (r - suc i) ≡ i = omega arith in rw e at (each (λ q. p (r - suc q)) 0 r (r - suc i) t (omega arith) (omega arith))))
+    (λ t. every (λ q. p (r - suc q)) 0 r (λ q a b. each p 0 r (r - suc q) t (omega arith) (omega arith)))
+
 -- Two tests at each number.
 pub all-both : (p q : ℕ → Bool) (lo n : ℕ) → (all p lo n && all q lo n) ≡ all (λ i. p i && q i) lo n
 all-both p q lo n =

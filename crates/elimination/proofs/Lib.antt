@@ -11,11 +11,18 @@ pub mod Flags
 pub mod Exchange
 -- What the proofs of this crate's functions rest on.
 pub mod RowSteps
-mod Stages
+mod Told
+mod Bounds
+mod Fours
+mod Quick
+mod Multiples
 mod RangeLaws
 mod DownwardLaws
+mod UpwardLaws
 mod ColumnLaws
 mod SharedLaws
+mod FiniteStages
 pub mod ColumnSteps
 mod ColumnTests
+mod FiniteColumns
 mod EngineLaws

@@ -1,6 +1,6 @@
 -- The invariants of the loops over a working table, along a row and down the rows, and what a turn does to each.
 use mathlib.Core.Path.{_≡_, sym, _∙_}
-use Prim.Native.Nat.{ℕ, _+_, _≤_, _<_}
+use Prim.Native.Nat.{ℕ, suc, _+_, _≤_, _<_}
 use native.Mathlib.Nat.{le-refl, le-antisymm}
 use native.Mathlib.Omega.{arith}
 use mathlib.Core.List.{List}
@@ -8,7 +8,7 @@ use lib.ListN.{length}
 use lib.Ieee.{Float}
 use Rattle.elimination.specs.Places.{table32, Holds}
 use Rattle.elimination.specs.Operators.{replace, between, put, span}
-use Rattle.elimination.proofs.Operators.{between-none, between-step, between-past, between-out, span-none, span-step, span-past, span-row}
+use Rattle.elimination.proofs.Operators.{between-none, between-step, between-past, between-out, span-none, span-step, span-joins, span-past, span-row}
 
 -- Along row i from lo: the places before j are done. They become g, and f was the table at the start.
 pub record Along (i lo : ℕ) (g : ℕ → Float) (f : ℕ → ℕ → Float) (xs : List Float) (j : ℕ) : Type 0 where
@@ -20,9 +20,12 @@ along-begins {i} {lo} {j} {g} {xs} q e =
     rw q (record { from = le-refl lo; holds = record { long = e; is = sym (span-none i g (table32 xs) lo lo (le-refl lo)) } })
 
 module _ {i lo : ℕ} {g : ℕ → Float} {f : ℕ → ℕ → Float} {xs : List Float} {j : ℕ} (h : Along i lo g f xs j) where
-  -- The place that is due, and the other rows, are as at the start.
+  -- The places that are due, and the other rows, are as at the start.
+  pub along-past : (a : ℕ) → j ≤ a → table32 xs i a ≡ f i a
+  along-past a l = rw (h .holds .is) (span-past i g f lo j a l)
+
   pub along-due : table32 xs i j ≡ f i j
-  along-due = rw (h .holds .is) (span-past i g f lo j j (le-refl j))
+  along-due = along-past j (le-refl j)
 
   pub along-else : (a b : ℕ) → (a ≡ i → ⊥) → table32 xs a b ≡ f a b
   along-else a b n = rw (h .holds .is, span-row i g f lo j a n)
@@ -31,8 +34,17 @@ module _ {i lo : ℕ} {g : ℕ → Float} {f : ℕ → ℕ → Float} {xs : List
   along-turns k e =
       record { from = omega arith; holds = record { long = k .long; is = k .is ∙ rw (e, h .holds .is) (span-step i g f lo j (h .from)) } }
 
+  -- Several places at once.
+  pub along-joins : {hi : ℕ} {e : ℕ → Float} {ys : List Float} → Holds ys (span i j hi e (table32 xs)) → j ≤ hi → ((a : ℕ) → j ≤ a → a < hi → e a ≡ g a) → Along i lo g f ys hi
+  along-joins {hi} {e} k l same =
+      record { from = omega (arith, h .from); holds = record { long = k .long; is = k .is ∙ rw (h .holds .is) (span-joins i g f lo j hi e (h .from) l same) } }
+
   pub along-ends : {hi : ℕ} → j ≤ hi → hi ≤ j → Holds xs (span i lo hi g f)
   along-ends l m = rw (le-antisymm l m) at (h .holds)
+
+-- The place after c places.
+pub along-next : {i lo : ℕ} {g : ℕ → Float} {f : ℕ → ℕ → Float} {xs ys : List Float} {x : Float} (c : ℕ) → Along i lo g f xs (lo + c) → Holds ys (put i (lo + c) x (table32 xs)) → x ≡ g (lo + c) → Along i lo g f ys (lo + suc c)
+along-next {lo = lo} c h k e = let n : lo + c + 1 ≡ lo + suc c = omega arith in rw n at (along-turns h k e)
 
 -- Down the rows from lo: those before i are done.
 pub record Down (lo : ℕ) (g f : ℕ → ℕ → Float) (xs : List Float) (i : ℕ) : Type 0 where

@@ -1,6 +1,7 @@
 -- The laws of the operators on sequences and tables: none, step, past.
 use mathlib.Core.Path.{_≡_, refl, sym, ap, _∙_, fun-ext}
-use Prim.Native.Nat.{ℕ, _+_, _≤_, _<_}
+use Prim.Native.Nat.{ℕ, suc, _+_, _≤_, _<_}
+use native.Mathlib.Nat.{le-refl}
 use native.Mathlib.Omega.{arith}
 use mathlib.Core.Bool.{Bool, cond}
 use lib.Ieee.{Float}
@@ -67,6 +68,27 @@ module _ {A : Type 0} where
           (λ q. between-in lo hi g f a h q ∙ sym (between-in lo (hi + 1) g f a h (omega arith))))
           (λ q. between-low lo hi g f a q ∙ sym (between-low lo (hi + 1) g f a q))
 
+  -- One more in front.
+  pub between-front : (lo hi : ℕ) (g f : ℕ → A) → lo < hi → replace lo (g lo) (between (suc lo) hi g f) ≡ between lo hi g f
+  between-front lo hi g f l =
+      fun-ext (λ a. by-equal a lo
+      (λ e. rw e (replace-same lo (g lo) (between (suc lo) hi g f) ∙ sym (between-in lo hi g f lo (le-refl lo) l)))
+      (λ n. replace-other lo (g lo) (between (suc lo) hi g f) a n ∙ by-order a lo
+      (λ o. between-low (suc lo) hi g f a (omega arith) ∙ sym (between-low lo hi g f a (omega arith)))
+      (λ o. by-order hi a
+      (λ p. between-past (suc lo) hi g f a p ∙ sym (between-past lo hi g f a p))
+      (λ p. between-in (suc lo) hi g f a o p ∙ sym (between-in lo hi g f a (omega arith) p)))))
+
+  -- From lo up to mid, and then up to hi.
+  pub between-joins : (lo mid hi : ℕ) (g h f : ℕ → A) → lo ≤ mid → mid ≤ hi → ((a : ℕ) → mid ≤ a → a < hi → h a ≡ g a) → between mid hi h (between lo mid g f) ≡ between lo hi g f
+  between-joins lo mid hi g h f l m e = fun-ext (λ a. by-order mid a
+      (λ n. by-order hi a
+      (λ o. between-past mid hi h (between lo mid g f) a o ∙ between-past lo mid g f a n ∙ sym (between-past lo hi g f a o))
+      (λ o. between-in mid hi h (between lo mid g f) a n o ∙ e a n o ∙ sym (between-in lo hi g f a (omega arith) o)))
+      (λ n. between-low mid hi h (between lo mid g f) a n ∙ by-order lo a
+      (λ o. between-in lo mid g f a o n ∙ sym (between-in lo hi g f a o (omega arith)))
+      (λ o. between-low lo mid g f a o ∙ sym (between-low lo hi g f a o))))
+
 -- A place of a row that was replaced.
 pub put-replaced : (i j : ℕ) (x : Float) (row : ℕ → Float) (f : ℕ → ℕ → Float) → put i j x (replace i row f) ≡ replace i (replace j x row) f
 unfolding put
@@ -88,3 +110,8 @@ module _ (i : ℕ) (g : ℕ → Float) (f : ℕ → ℕ → Float) where
   pub span-row : (lo hi a : ℕ) → (a ≡ i → ⊥) → span i lo hi g f a ≡ f a
   unfolding span
   span-row lo hi a n = replace-other i (between lo hi g (f i)) f a n
+
+  pub span-joins : (lo mid hi : ℕ) (h : ℕ → Float) → lo ≤ mid → mid ≤ hi → ((a : ℕ) → mid ≤ a → a < hi → h a ≡ g a) → span i mid hi h (span i lo mid g f) ≡ span i lo hi g f
+  unfolding span
+  span-joins lo mid hi h l m e =
+      rw (replace-same i (between lo mid g (f i)) f, replace-twice i (between mid hi h (between lo mid g (f i))) (between lo mid g (f i)) f, between-joins lo mid hi g h (f i) l m e)

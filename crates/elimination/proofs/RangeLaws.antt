@@ -1,62 +1,177 @@
--- The laws behind the range tests.
-use mathlib.Core.Path.{_≡_}
-use Prim.Native.Nat.{ℕ, suc, _-_, _≤_, _<_}
+-- The laws behind the range tests of a row.
+use mathlib.Core.Path.{_≡_, ap₂, _∙_}
+use Prim.Native.Nat.{ℕ, suc, _+_, _-_, _≤_, _<_}
+use native.Mathlib.Nat.{le-refl}
+use native.Mathlib.Numerals.{add-one}
 use native.Mathlib.Omega.{arith}
-use mathlib.Core.Bool.{Bool, _&&_, _||_}
+use mathlib.Core.Logic.{_⊎_, inl, inr}
+use mathlib.Core.Bool.{Bool, true, false, _&&_, _||_}
 use lib.Dec.{T, eqb}
-use lib.Ieee.{Float}
+use lib.Ieee.{Float, binary64, fits, lt}
 use borrow.Author.Tests.{eq-eqb, ne-eqb}
-use Rattle.definitions.specs.Numbers.{_⊘_, divInRange, addProductInRange, all}
-use Rattle.definitions.specs.LeavingRates.{p, m↓, multiplier, rowInRange}
-use Rattle.elimination.specs.Places.{atStage}
-use Rattle.elimination.specs.Steps.{IsStage, plusMultipleInRange}
+use Rattle.definitions.specs.Numbers.{_⊕_, _⊗_, _⊘_, smallest, finite, isZero, mulInRange, divInRange, addProductInRange, all}
+use Rattle.rounding.proofs.Finite.{sum-finite, product-finite}
+use Rattle.elimination.specs.Steps.{timesInRange, rowTest}
+use Rattle.elimination.specs.Told.{Told, RowFinite, Covering}
 use Rattle.elimination.proofs.Cases.{by-equal, by-order}
 use Rattle.elimination.proofs.Flags.{same-truth, both, both-left, both-right, each, every}
+use Rattle.elimination.proofs.Quick.{quick-product, quick-multiplier, zero-product, zero-quotient, product-of-step, step-of-product, step-finite}
 
--- A row without one of its places: the places on both sides of it.
+-- A row without one of its places.
+module _ (q : ℕ → Bool) (i : ℕ) where
+  others : ℕ → Bool
+  others j = eqb i j || q j
+
+  skipped : (j : ℕ) → i ≡ j → T (others j)
+  unfolding others
+  skipped j e = rw (eq-eqb i j e) tt
+
+  tested : (j : ℕ) → (i ≡ j → ⊥) → others j ≡ q j
+  unfolding others
+  tested j n = rw (ne-eqb i j n)
+
+  each-other : (lo n j : ℕ) → T (all (λ j. eqb i j || q j) lo n) → lo ≤ j → j < lo + n → (i ≡ j → ⊥) → T (q j)
+  unfolding others
+  each-other lo n j t l h o = rw (tested j o) at (each others lo n j t l h)
+
+  every-other : (lo n : ℕ) → ((j : ℕ) → lo ≤ j → j < lo + n → (i ≡ j → ⊥) → T (q j)) → T (all (λ j. eqb i j || q j) lo n)
+  unfolding others
+  every-other lo n f = every others lo n (λ j l h. by-equal i j (skipped j) (λ o. rw (tested j o) (f j l h o)))
+
+-- The places on both sides of it.
 module _ (q : ℕ → Bool) (lo i hi : ℕ) (low : lo ≤ i) (high : i < hi) where
-  whole : ℕ → Bool
-  whole j = eqb i j || q j
-
   left : Bool
   left = all q lo (i - lo)
 
   right : Bool
   right = all q (suc i) (hi - suc i)
 
-  skipped : (j : ℕ) → i ≡ j → T (whole j)
-  unfolding whole
-  skipped j e = rw (eq-eqb i j e) tt
+  whole : Bool
+  whole = all (λ j. eqb i j || q j) lo (hi - lo)
 
-  tested : (j : ℕ) → (i ≡ j → ⊥) → whole j ≡ q j
-  unfolding whole
-  tested j n = rw (ne-eqb i j n)
-
-  parts-of-whole : T (all whole lo (hi - lo)) → T (left && right)
-  unfolding left right
-  parts-of-whole t =
-      both (all q lo (i - lo)) (all q (suc i) (hi - suc i))
-      (every q lo (i - lo) (λ j l h. rw (tested j (λ e. omega arith)) at (each whole lo (hi - lo) j t l (omega arith))))
-      (every q (suc i) (hi - suc i) (λ j l h. rw (tested j (λ e. omega arith)) at (each whole lo (hi - lo) j t (omega arith) (omega arith))))
-
-  whole-of-parts : T (left && right) → T (all whole lo (hi - lo))
-  unfolding left right
-  whole-of-parts t =
-      every whole lo (hi - lo) (λ j l h. by-equal i j
-      (λ e. skipped j e)
-      (λ n. rw (tested j n) (by-order j i
-      (λ m. each q lo (i - lo) j (both-left (all q lo (i - lo)) (all q (suc i) (hi - suc i)) t) l (omega arith))
-      (λ m. each q (suc i) (hi - suc i) j (both-right (all q lo (i - lo)) (all q (suc i) (hi - suc i)) t) m (omega arith)))))
-
-  pub both-sides : (all q lo (i - lo) && all q (suc i) (hi - suc i)) ≡ all (λ j. eqb i j || q j) lo (hi - lo)
+  parts-of-whole : T whole → T (left && right)
   unfolding whole left right
-  both-sides = same-truth (left && right) (all whole lo (hi - lo)) whole-of-parts parts-of-whole
+  parts-of-whole t =
+      both left right
+      (every q lo (i - lo) (λ j l h. each-other q i lo (hi - lo) j t l (omega arith) (λ e. omega arith)))
+      (every q (suc i) (hi - suc i) (λ j l h. each-other q i lo (hi - lo) j t (omega arith) (omega arith) (λ e. omega arith)))
 
--- Row i at stage k of a table.
-pub row-test : (r k i : ℕ) (f : ℕ → ℕ → Float) (s q : Float) → k < i → i < r → IsStage r k f s q
-    → (divInRange (f i k) q && addProductInRange (f i i) (f i k ⊘ q) s
-    && (all (plusMultipleInRange (f i k ⊘ q) (f i) (f k)) (suc k) (i - suc k) && all (plusMultipleInRange (f i k ⊘ q) (f i) (f k)) (suc i) (r - suc i)))
-    ≡ rowInRange r (atStage f) k i
-unfolding rowInRange m↓ p multiplier plusMultipleInRange
-row-test r k i f s q l h e =
-    rw (both-sides (plusMultipleInRange (f i k ⊘ q) (f i) (f k)) (suc k) i r l h, e .sum, e .pivots)
+  whole-of-parts : T (left && right) → T whole
+  unfolding whole left right
+  whole-of-parts t =
+      every-other q i lo (hi - lo) (λ j l h o. by-order j i
+      (λ m. each q lo (i - lo) j (both-left left right t) l (omega arith))
+      (λ m. each q (suc i) (hi - suc i) j (both-right left right t) m (omega arith)))
+
+  both-sides : (all q lo (i - lo) && all q (suc i) (hi - suc i)) ≡ all (λ j. eqb i j || q j) lo (hi - lo)
+  unfolding whole left right
+  both-sides = same-truth (left && right) whole whole-of-parts parts-of-whole
+
+-- A finite quotient is in range where the dividend is zero, and where it is above 2^-1022.
+either : (a b c : Bool) → T a ⊎ T c → T (a || b || c)
+either true b c t = tt
+either false true c t = tt
+either false false c (inr t) = t
+
+division : (x p : Float) → T (finite (x ⊘ p)) → T (isZero x) ⊎ T (lt smallest (x ⊘ p)) → T (divInRange x p)
+unfolding divInRange
+division x p f t = both (finite (x ⊘ p)) (isZero x || isZero p || lt smallest (x ⊘ p)) f (either (isZero x) (isZero p) (lt smallest (x ⊘ p)) t)
+
+-- Row i at stage k, from finite results: its multiplier and its products are finite.
+module _ {r k i : ℕ} {p : Float} {own other : ℕ → Float} (l : k < i) (h : RowFinite r k i p own other) where
+  product-is-finite : (j : ℕ) → k ≤ j → j < r → (i ≡ j → ⊥) → T (finite ((own k ⊘ p) ⊗ other j))
+  product-is-finite j a b n =
+      by-equal j k
+      (λ e. rw e (sum-finite (own i) ((own k ⊘ p) ⊗ other k) (h .exit) .1))
+      (λ o. sum-finite (own j) ((own k ⊘ p) ⊗ other j) (h .sizes j (omega arith) b n) .1)
+
+  pub multiplier-is-finite : T (finite (own k ⊘ p))
+  multiplier-is-finite =
+      product-finite (own k ⊘ p) (other k) (sum-finite (own i) ((own k ⊘ p) ⊗ other k) (h .exit) .1) .0
+
+-- Its test by the document, and by the multiplier and the products.
+module _ (r k i : ℕ) (p : Float) (own other : ℕ → Float) (l : k < i) (h : i < r) where
+  multiplier : Bool
+  multiplier = divInRange (own k) p
+
+  exit : Bool
+  exit = addProductInRange (own i) (own k ⊘ p) (other k)
+
+  sizes : Bool
+  sizes = all (λ j. eqb i j || addProductInRange (own j) (own k ⊘ p) (other j)) (suc k) (r - suc k)
+
+  products : Bool
+  products = all (λ j. eqb i j || timesInRange (own k ⊘ p) other j) k (r - k)
+
+  test-of-products : RowFinite r k i p own other → T multiplier → T products → T (rowTest r k i p own other)
+  unfolding rowTest multiplier exit sizes products timesInRange
+  test-of-products f t u =
+      let times : (j : ℕ) → k ≤ j → j < r → (i ≡ j → ⊥) → T (mulInRange (own k ⊘ p) (other j)) = λ j a b n. each-other (timesInRange (own k ⊘ p) other) i k (r - k) j u a (omega arith) n in
+      both (multiplier && exit) sizes
+      (both multiplier exit t (step-of-product (own i) (own k ⊘ p) (other k) (times k (le-refl k) (omega arith) (λ e. omega arith)) (f .exit)))
+      (every-other (λ j. addProductInRange (own j) (own k ⊘ p) (other j)) i (suc k) (r - suc k) (λ j a b n. step-of-product (own j) (own k ⊘ p) (other j) (times j (omega arith) (omega arith) n) (f .sizes j a (omega arith) n)))
+
+  multiplier-of-test : T (rowTest r k i p own other) → T multiplier
+  unfolding rowTest multiplier exit sizes
+  multiplier-of-test t = both-left multiplier exit (both-left (multiplier && exit) sizes t)
+
+  exit-of-test : T (rowTest r k i p own other) → T exit
+  unfolding rowTest multiplier exit sizes
+  exit-of-test t = both-right multiplier exit (both-left (multiplier && exit) sizes t)
+
+  pub exit-is-finite : T (rowTest r k i p own other) → T (finite (own i ⊕ (own k ⊘ p) ⊗ other k))
+  unfolding exit
+  exit-is-finite t = step-finite (own i) (own k ⊘ p) (other k) (exit-of-test t)
+
+  products-of-test : T (rowTest r k i p own other) → T products
+  unfolding rowTest multiplier exit sizes products timesInRange
+  products-of-test t =
+      every-other (timesInRange (own k ⊘ p) other) i k (r - k) (λ j a b n. by-equal j k
+      (λ e. rw e (product-of-step (own i) (own k ⊘ p) (other k) (exit-of-test t)))
+      (λ o. product-of-step (own j) (own k ⊘ p) (other j) (each-other (λ j. addProductInRange (own j) (own k ⊘ p) (other j)) i (suc k) (r - suc k) j (both-right (multiplier && exit) sizes t) (omega arith) (omega arith) n)))
+
+  -- The code's tests, for the size x and the multiplier m that it has in hand. Where a quick test passes, finite results are in range.
+  quick-row : (T (finite (own k ⊘ p)) → T (isZero (own k)) ⊎ T (lt smallest (own k ⊘ p)))
+      → ((j : ℕ) → k ≤ j → j < r → T (finite (own k ⊘ p)) → T (finite ((own k ⊘ p) ⊗ other j)) → T (mulInRange (own k ⊘ p) (other j)))
+      → Told true (rowTest r k i p own other) (RowFinite r k i p own other)
+  unfolding multiplier products timesInRange
+  quick-row a b =
+      record {
+        passes = λ t. tt;
+        tells = λ f t.
+            let m = multiplier-is-finite l f in
+            test-of-products f
+            (division (own k) p m (a m))
+            (every-other (timesInRange (own k ⊘ p) other) i k (r - k) (λ j c d n. b j c (omega arith) m (product-is-finite l f j c (omega arith) n)));
+      }
+
+  -- Where the size is zero, the products are.
+  pub zero-row : {x : Float} → x ≡ own k → T (isZero x) → Told true (rowTest r k i p own other) (RowFinite r k i p own other)
+  zero-row e t =
+      let z : T (isZero (own k)) = rw e at t in
+      quick-row (λ m. inl z) (λ j a b m f. zero-product (own k ⊘ p) (other j) (zero-quotient (own k) p z m) f)
+
+  module _ {m : Float} (e : m ≡ own k ⊘ p) where
+    -- Where m times the bound is above 2^-1022, so are m and the products that are not zero.
+    pub bounded-row : (lo : Float) → T (fits binary64 m) → Covering lo other k r → T (lt smallest (m ⊗ lo)) → Told true (rowTest r k i p own other) (RowFinite r k i p own other)
+    bounded-row lo g c t =
+        let held : T (fits binary64 (own k ⊘ p)) = rw e at g in
+        let above : T (lt smallest ((own k ⊘ p) ⊗ lo)) = rw e at t in
+        quick-row (λ f. inr (quick-multiplier (own k ⊘ p) lo held f (c .bound) above))
+        (λ j a b u f. quick-product (own k ⊘ p) lo (other j) held (c .bound) (c .covers j a b) above f)
+
+    -- One by one.
+    pub tested-row : {x : Float} {t left right : Bool}
+        → x ≡ own k
+        → t ≡ divInRange x p
+        → left ≡ all (timesInRange m other) k (i - k)
+        → right ≡ all (timesInRange m other) (i + 1) (r - (i + 1))
+        → Told (t && (left && right)) (rowTest r k i p own other) (RowFinite r k i p own other)
+    unfolding multiplier products
+    tested-row {x} {t} {left} {right} d a b c =
+        let sides : left && right ≡ products = ap₂ (λ y z. y && z) (rw e at b) (rw (e, add-one i) at c) ∙ both-sides (timesInRange (own k ⊘ p) other) k i r (omega arith) h in
+        let q : t && (left && right) ≡ (multiplier && products) = ap₂ (λ y z. y && z) (rw d at a) sides in
+        record {
+          passes = λ u. rw q (both multiplier products (multiplier-of-test u) (products-of-test u));
+          tells = λ f u. let v : T (multiplier && products) = rw q at u in test-of-products f (both-left multiplier products v) (both-right multiplier products v);
+        }

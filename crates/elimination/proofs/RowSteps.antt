@@ -1,11 +1,11 @@
--- One step of each kind, from numbers that are known: x + m·y, and x / p.
+-- One step of each kind, from numbers that are known: x + m·y, m·y, and x / p.
 use mathlib.Core.Path.{_≡_, refl, _∙_}
 use Prim.Native.Nat.{ℕ}
 use mathlib.Core.Bool.{Bool}
 use lib.Ieee.{Float}
-use Rattle.definitions.specs.Numbers.{_⊕_, _⊗_, _⊘_, divInRange, addProductInRange}
+use Rattle.definitions.specs.Numbers.{_⊕_, _⊗_, _⊘_, mulInRange, divInRange, addProductInRange}
 use Rattle.elimination.specs.Operators.{between}
-use Rattle.elimination.specs.Steps.{plusMultiple, plusMultipleInRange, over, overInRange, overPivot, overPivotInRange}
+use Rattle.elimination.specs.Steps.{plusMultiple, timesInRange, over, overInRange, overPivot, overPivotInRange}
 
 module _ {x x' m m' y y' : Float} (a : x ≡ x') (e : m ≡ m') (b : y ≡ y') where
   pub step-same : x ⊕ m ⊗ y ≡ x' ⊕ m' ⊗ y'
@@ -16,14 +16,13 @@ module _ {x x' m m' y y' : Float} (a : x ≡ x') (e : m ≡ m') (b : y ≡ y') w
 
 -- At column j of a row.
 module _ (j : ℕ) (own : ℕ → Float) {x : Float} (a : x ≡ own j) where
-  module _ (m : Float) (other : ℕ → Float) {y : Float} (b : y ≡ other j) where
-    pub plus-multiple : x ⊕ m ⊗ y ≡ plusMultiple m own other j
-    unfolding plusMultiple
-    plus-multiple = step-same a refl b
+  pub plus-multiple : (m : Float) (other : ℕ → Float) {y : Float} → y ≡ other j → x ⊕ m ⊗ y ≡ plusMultiple m own other j
+  unfolding plusMultiple
+  plus-multiple m other b = step-same a refl b
 
-    pub plus-multiple-test : {ok : Bool} → ok ≡ addProductInRange x m y → ok ≡ plusMultipleInRange m own other j
-    unfolding plusMultipleInRange
-    plus-multiple-test e = e ∙ step-test-same a refl b
+  pub times-test : (m : Float) {ok : Bool} → ok ≡ mulInRange m x → ok ≡ timesInRange m own j
+  unfolding timesInRange
+  times-test m e = e ∙ rw a
 
   module _ (p : Float) where
     pub over-is : x ⊘ p ≡ over p own j

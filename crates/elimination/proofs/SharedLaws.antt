@@ -9,11 +9,11 @@ use Rattle.definitions.specs.Numbers.{_⊕_, _⊗_, _⊘_, 0·0, divInRange, al
 use Rattle.definitions.specs.LeavingRates.{System, pivot, multiplier, eliminate, begun, downward, p, u, m↓, m↑, rowInRange, stageInRange, sharedBefore, shared}
 use Rattle.elimination.specs.Places.{systemIn, atStage}
 use Rattle.elimination.specs.Operators.{replace, between, put}
-use Rattle.elimination.specs.Steps.{plusMultiple, eliminatedRow, eliminatedRows, stageDone, stagesDone, stagesInRange, overPivot, upwardRows, overPivotInRange, multipliersInRange}
+use Rattle.elimination.specs.Steps.{plusMultiple, eliminatedRow, eliminatedRows, stageDone, stagesDone, stagesInRange, overPivot, upwardRows, overPivotInRange, multipliersInRange, rowMultipliersInRange}
 use Rattle.elimination.specs.Contracts.{Multipliers}
 use Rattle.elimination.proofs.Cases.{by-equal, by-order}
 use Rattle.elimination.proofs.Operators.{replace-same, replace-other, between-in, between-low, between-past, between-out}
-use Rattle.elimination.proofs.Flags.{all-same}
+use Rattle.elimination.proofs.Flags.{all-same, same-truth, each, every}
 use Rattle.steps.proofs.Tables.{stored-at, storedTable-at}
 use Rattle.steps.proofs.LeavingRates.{begun-at}
 use Rattle.elimination.proofs.Same.{Same, same-same, eliminate-same, p-same, m↓-same, u-same, stage-test-same}
@@ -31,7 +31,7 @@ module _ (r k : ℕ) (f : ℕ → ℕ → Float) where
   unfolding stageDone put
   other-row i n = let q = pivot r (systemIn f) k in let g = eliminatedRows r k (f k k) q r f in replace-other k (replace k q (g k)) g i n
 
-  row-done : (i : ℕ) → k < i → i < r → stageDone r k f i ≡ eliminatedRow r k (f k k) (pivot r (systemIn f) k) i (f i) (f k)
+  pub row-done : (i : ℕ) → k < i → i < r → stageDone r k f i ≡ eliminatedRow r k (f k k) (pivot r (systemIn f) k) i (f i) (f k)
   unfolding eliminatedRows
   row-done i l m = other-row i (λ e. omega arith) ∙ between-in (suc k) r (λ i. eliminatedRow r k (f k k) (pivot r (systemIn f) k) i (f i) (f k)) f i l m
 
@@ -41,7 +41,7 @@ module _ (r k : ℕ) (f : ℕ → ℕ → Float) where
 
 -- Row i at stage k, place by place.
 module _ (r k : ℕ) (s q : Float) (i : ℕ) (own other : ℕ → Float) (l : k < i) where
-  exit-place : eliminatedRow r k s q i own other i ≡ own i ⊕ (own k ⊘ q) ⊗ s
+  pub exit-place : eliminatedRow r k s q i own other i ≡ own i ⊕ (own k ⊘ q) ⊗ s
   unfolding eliminatedRow
   exit-place = replace-same i (own i ⊕ (own k ⊘ q) ⊗ s) (replace k (own k ⊘ q) (between (suc k) r (plusMultiple (own k ⊘ q) own other) own))
 
@@ -55,7 +55,7 @@ module _ (r k : ℕ) (s q : Float) (i : ℕ) (own other : ℕ → Float) (l : k 
   along : (j : ℕ) → (j ≡ i → ⊥) → (j ≡ k → ⊥) → eliminatedRow r k s q i own other j ≡ between (suc k) r (plusMultiple (own k ⊘ q) own other) own j
   along j n o = inner j n ∙ replace-other k (own k ⊘ q) (between (suc k) r (plusMultiple (own k ⊘ q) own other) own) j o
 
-  size-place : (j : ℕ) → k < j → j < r → (i ≡ j → ⊥) → eliminatedRow r k s q i own other j ≡ own j ⊕ (own k ⊘ q) ⊗ other j
+  pub size-place : (j : ℕ) → k < j → j < r → (i ≡ j → ⊥) → eliminatedRow r k s q i own other j ≡ own j ⊕ (own k ⊘ q) ⊗ other j
   unfolding plusMultiple
   size-place j a b n = along j (λ e. n (sym e)) (λ e. omega arith) ∙ between-in (suc k) r (plusMultiple (own k ⊘ q) own other) own j a b
 
@@ -202,3 +202,11 @@ module _ (r : ℕ) (f : ℕ → ℕ → Float) where
       (λ l. ap (λ (row : ℕ → Float). row j) (between-past 0 r (λ i. between (suc i) r (overPivot (stagesDone r f r) i) (stagesDone r f r i)) (stagesDone r f r) i l))
       (λ l. not-above i j l (λ a b. o l b))
       ∙ end-outside i j o
+
+-- The tests of the upward multipliers, row by row and column by column.
+pub row-by-row : (r : ℕ) (f : ℕ → ℕ → Float) → all (rowMultipliersInRange r f) 0 r ≡ multipliersInRange r f
+unfolding rowMultipliersInRange multipliersInRange
+row-by-row r f =
+    same-truth (all (rowMultipliersInRange r f) 0 r) (multipliersInRange r f)
+    (λ t. every (λ k. all (overPivotInRange f k) 0 k) 0 r (λ k a b. every (overPivotInRange f k) 0 k (λ i c d. each (λ k. overPivotInRange f k i) (suc i) (r - suc i) k (each (rowMultipliersInRange r f) 0 r i t c (omega arith)) (omega arith) (omega arith))))
+    (λ t. every (rowMultipliersInRange r f) 0 r (λ i c d. every (λ k. overPivotInRange f k i) (suc i) (r - suc i) (λ k a b. each (overPivotInRange f k) 0 k i (each (λ k. all (overPivotInRange f k) 0 k) 0 r k t (omega arith) (omega arith)) c (omega arith))))

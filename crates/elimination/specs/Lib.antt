@@ -1,4 +1,6 @@
 pub mod Places
 pub mod Operators
 pub mod Steps
+pub mod Told
+pub mod Four
 pub mod Contracts

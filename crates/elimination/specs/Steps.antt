@@ -1,10 +1,10 @@
 -- What the functions do to a working table f: the steps of `definitions`, with the loops' bounds as parameters.
 use mathlib.Core.Path.{_≡_}
 use Prim.Native.Nat.{ℕ, zero, suc, _-_}
-use mathlib.Core.Bool.{Bool, cond}
+use mathlib.Core.Bool.{Bool, _&&_, _||_, cond}
 use lib.Dec.{eqb}
 use lib.Ieee.{Float}
-use Rattle.definitions.specs.Numbers.{_⊕_, _⊗_, _⊘_, 0·0, 1·0, divInRange, addProductInRange, all}
+use Rattle.definitions.specs.Numbers.{_⊕_, _⊗_, _⊘_, 0·0, 1·0, mulInRange, divInRange, addProductInRange, all}
 use Rattle.definitions.specs.LeavingRates.{pivot, stageInRange}
 use Rattle.elimination.specs.Places.{systemIn, atStage}
 use Rattle.elimination.specs.Operators.{replace, between, put}
@@ -15,6 +15,10 @@ plusMultiple m own other j = own j ⊕ m ⊗ other j
 
 unfoldable pub plusMultipleInRange : Float → (ℕ → Float) → (ℕ → Float) → ℕ → Bool
 plusMultipleInRange m own other j = addProductInRange (own j) m (other j)
+
+-- The products alone.
+unfoldable pub timesInRange : Float → (ℕ → Float) → ℕ → Bool
+timesInRange m other j = mulInRange m (other j)
 
 -- A row over a number p.
 unfoldable pub over : Float → (ℕ → Float) → ℕ → Float
@@ -33,6 +37,14 @@ unfoldable pub eliminatedRow : ℕ → ℕ → Float → Float → ℕ → (ℕ 
 eliminatedRow r k s p i own other =
     let m = own k ⊘ p in
     replace i (own i ⊕ m ⊗ s) (replace k m (between (suc k) r (plusMultiple m own other) own))
+
+-- Whether its steps are in range: the multiplier, the leaving rate, the sizes off the diagonal. The running sum stands in column k of the other row.
+unfoldable pub rowTest : ℕ → ℕ → ℕ → Float → (ℕ → Float) → (ℕ → Float) → Bool
+rowTest r k i p own other =
+    let m = own k ⊘ p in
+    divInRange (own k) p
+    && addProductInRange (own i) m (other k)
+    && all (λ j. eqb i j || addProductInRange (own j) m (other j)) (suc k) (r - suc k)
 
 -- The rows after k and before hi.
 unfoldable pub eliminatedRows : ℕ → ℕ → Float → Float → ℕ → (ℕ → ℕ → Float) → ℕ → ℕ → Float
@@ -61,6 +73,10 @@ overPivotInRange f k i = divInRange (f i k) (f k k)
 
 unfoldable pub multipliersInRange : ℕ → (ℕ → ℕ → Float) → Bool
 multipliersInRange r f = all (λ k. all (overPivotInRange f k) 0 k) 0 r
+
+-- Row by row, the same tests.
+unfoldable pub rowMultipliersInRange : ℕ → (ℕ → ℕ → Float) → ℕ → Bool
+rowMultipliersInRange r f i = all (λ k. overPivotInRange f k i) (suc i) (r - suc i)
 
 -- The rows before hi of the identity of r × r.
 unfoldable pub identityRow : ℕ → ℕ → Float
@@ -91,6 +107,14 @@ upDone r g f (suc q) = let k = r - suc q in rowsAdded k 0 k r g (upDone r g f q)
 
 unfoldable pub upInRange : ℕ → (ℕ → ℕ → Float) → (ℕ → ℕ → Float) → ℕ → Bool
 upInRange r g f q = all (λ l. let k = r - suc l in rowsAddedInRange k 0 k r g (upDone r g f l)) 0 q
+
+-- the same for one row i alone, q stages of it, where the rows after it are done,
+unfoldable pub climbed : ℕ → (ℕ → ℕ → Float) → (ℕ → ℕ → Float) → ℕ → ℕ → ℕ → Float
+climbed r g f i zero = f i
+climbed r g f i (suc q) = let k = r - suc q in plusMultiple (g i k) (climbed r g f i q) (f k)
+
+unfoldable pub climbInRange : ℕ → (ℕ → ℕ → Float) → (ℕ → ℕ → Float) → ℕ → Bool
+climbInRange r g f i = all (λ q. let k = r - suc q in all (plusMultipleInRange (g i k) (climbed r g f i q) (f k)) 0 r) 0 (r - suc i)
 
 -- and the last division, in the rows before hi.
 unfoldable pub dividedRows : ℕ → ℕ → (ℕ → ℕ → Float) → (ℕ → ℕ → Float) → ℕ → ℕ → Float

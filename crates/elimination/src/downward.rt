@@ -2,16 +2,18 @@
 // place (i, i) until stage i is done, and p_i afterwards; the multiplier of row i at stage k takes the
 // place (i, k), which no later step reads as a size.
 use crate::Stage;
+use crate::least;
 use crate::range;
 use crate::row;
 ghost use mathlib.Core.Path.{_≡_};
-ghost use Prim.Native.Nat.{suc, _≤_, _<_};
+ghost use Prim.Native.Nat.{suc, _-_, _≤_, _<_};
 ghost use lib.ListN.{length};
-ghost use Rattle.definitions.specs.LeavingRates.{stageInRange};
-ghost use Rattle.elimination.specs.Places.{table32, atStage, Holds, Gives};
+ghost use Rattle.definitions.specs.Numbers.{all};
+ghost use Rattle.elimination.specs.Places.{table32, Gives};
 ghost use Rattle.elimination.specs.Operators.{replace, span};
 ghost use Rattle.elimination.specs.Contracts.{Shared};
-ghost use Rattle.elimination.specs.Steps.{IsStage, eliminatedRow, eliminatedRows, stageDone, stagesDone, stagesInRange, overPivot, upwardRows};
+ghost use Rattle.elimination.specs.Steps.{IsStage, rowTest, eliminatedRow, eliminatedRows, stagesDone, stagesInRange, overPivot, upwardRows, rowMultipliersInRange};
+ghost use Rattle.elimination.specs.Told.{Finds, RowFinite, StageFinite, StageFinds, Covering};
 
 // Stage k's running sum and pivot: s_k, and s_k with the sizes after the diagonal added, rising.
 pub fn begin(r: usize, k: usize, t: &[f64; 1024]) -> Stage
@@ -27,38 +29,51 @@ pub fn begin(r: usize, k: usize, t: &[f64; 1024]) -> Stage
     Stage { s, p }
 }
 
-// Row i at stage k. The loop over the row runs over the diagonal too, so the new s_i is made before
-// and stored after it.
-pub fn eliminate_row(r: usize, k: usize, i: usize, stage: Stage, t: &mut [f64; 1024])
-    requires { ⌜ (k < i) × (i < r) × (r ≤ 32) × (length (now t) ≡ 1024) ⌝ }
-    ensures { λ _. ⌜ Holds (now (t .exit)) (replace i (eliminatedRow r k (stage .s) (stage .p) i (table32 (now (t .entry)) i) (table32 (now (t .entry)) k)) (table32 (now (t .entry)))) ⌝ }
+// Row i at stage k, and whether its steps are in range. The loop over the row runs over the diagonal
+// too, so the new s_i is made before and stored after it.
+pub fn eliminate_row(
+    r: usize,
+    k: usize,
+    i: usize,
+    stage: Stage,
+    lo: f64,
+    t: &mut [f64; 1024],
+) -> bool
+    requires { ⌜ (k < i) × (i < r) × (r ≤ 32) × (length (now t) ≡ 1024) × (stage .s ≡ table32 (now t) k k) × Covering lo (table32 (now t) k) k r ⌝ }
+    ensures { λ ok. ⌜ Finds ok (rowTest r k i (stage .p) (table32 (now (t .entry)) i) (table32 (now (t .entry)) k)) (RowFinite r k i (stage .p) (table32 (now (t .entry)) i) (table32 (now (t .entry)) k)) (now (t .exit)) (replace i (eliminatedRow r k (stage .s) (stage .p) i (table32 (now (t .entry)) i) (table32 (now (t .entry)) k)) (table32 (now (t .entry)))) ⌝ }
 {
     let m = row::get(i, k, t) / stage.p;
+    let ok = range::row_told(r, k, i, stage, m, lo, t);
     let s = row::get(i, i, t) + m * stage.s;
     row::add_multiple(i, k, m, k + 1, r, t);
     row::put(i, k, m, t);
     row::put(i, i, s, t);
+    ok
 }
 
-pub fn eliminate_rows(r: usize, k: usize, stage: Stage, t: &mut [f64; 1024])
-    requires { ⌜ (k < r) × (r ≤ 32) × (length (now t) ≡ 1024) ⌝ }
-    ensures { λ _. ⌜ Holds (now (t .exit)) (eliminatedRows r k (stage .s) (stage .p) r (table32 (now (t .entry)))) ⌝ }
+pub fn eliminate_rows(r: usize, k: usize, stage: Stage, lo: f64, t: &mut [f64; 1024]) -> bool
+    requires { ⌜ (k < r) × (r ≤ 32) × (length (now t) ≡ 1024) × (stage .s ≡ table32 (now t) k k) × Covering lo (table32 (now t) k) k r ⌝ }
+    ensures { λ ok. ⌜ Finds ok (all (λ i. rowTest r k i (stage .p) (table32 (now (t .entry)) i) (table32 (now (t .entry)) k)) (suc k) (r - suc k)) (StageFinite r k (stage .p) (table32 (now (t .entry)))) (now (t .exit)) (eliminatedRows r k (stage .s) (stage .p) r (table32 (now (t .entry)))) ⌝ }
 {
+    let mut ok = true;
     for i in k + 1..r {
-        eliminate_row(r, k, i, stage, t);
+        let row = eliminate_row(r, k, i, stage, lo, t);
+        ok = ok & row;
     }
+    ok
 }
 
-// Stage k, and whether its steps are in range.
+// Stage k, and whether its pivot is finite and its steps are in range.
 pub fn eliminate(r: usize, k: usize, t: &mut [f64; 1024]) -> bool
     requires { ⌜ (k < r) × (r ≤ 32) × (length (now t) ≡ 1024) ⌝ }
-    ensures { λ ok. ⌜ Gives ok (stageInRange r (atStage (table32 (now (t .entry)))) k) (now (t .exit)) (stageDone r k (table32 (now (t .entry)))) ⌝ }
+    ensures { λ ok. ⌜ StageFinds r k (table32 (now (t .entry))) ok (now (t .exit)) ⌝ }
 {
     let stage = begin(r, k, t);
-    let ok = range::stage_in_range(r, k, stage, t);
-    eliminate_rows(r, k, stage, t);
+    let pivot = range::pivot_told(r, stage.p);
+    let lo = least::least(1.0, k, k, r, t);
+    let rows = eliminate_rows(r, k, stage, lo, t);
     row::put(k, k, stage.p, t);
-    ok
+    pivot & rows
 }
 
 // Every stage, and whether their steps are in range.
@@ -74,25 +89,34 @@ pub fn downward(r: usize, t: &mut [f64; 1024]) -> bool
     ok
 }
 
-// The upward multipliers of row i: its sizes after the diagonal over the pivots of their columns.
-pub fn upward_row(r: usize, i: usize, t: &mut [f64; 1024])
+// The upward multipliers of row i, its sizes after the diagonal over the pivots of their columns, and
+// whether they are in range.
+pub fn upward_row(r: usize, i: usize, t: &mut [f64; 1024]) -> bool
     requires { ⌜ (i < r) × (r ≤ 32) × (length (now t) ≡ 1024) ⌝ }
-    ensures { λ _. ⌜ Holds (now (t .exit)) (span i (suc i) r (overPivot (table32 (now (t .entry))) i) (table32 (now (t .entry)))) ⌝ }
+    ensures { λ ok. ⌜ Gives ok (rowMultipliersInRange r (table32 (now (t .entry))) i) (now (t .exit)) (span i (suc i) r (overPivot (table32 (now (t .entry))) i) (table32 (now (t .entry)))) ⌝ }
 {
+    let mut ok = true;
     for k in i + 1..r {
         let x = row::get(i, k, t);
         let p = row::get(k, k, t);
-        row::put(i, k, x / p, t);
+        let m = x / p;
+        let step = rounding::result_in_range(x, p, m);
+        ok = ok & step;
+        row::put(i, k, m, t);
     }
+    ok
 }
 
-pub fn upward_rows(r: usize, t: &mut [f64; 1024])
+pub fn upward_rows(r: usize, t: &mut [f64; 1024]) -> bool
     requires { ⌜ (r ≤ 32) × (length (now t) ≡ 1024) ⌝ }
-    ensures { λ _. ⌜ Holds (now (t .exit)) (upwardRows r r (table32 (now (t .entry)))) ⌝ }
+    ensures { λ ok. ⌜ Gives ok (all (rowMultipliersInRange r (table32 (now (t .entry)))) 0 r) (now (t .exit)) (upwardRows r r (table32 (now (t .entry)))) ⌝ }
 {
+    let mut ok = true;
     for i in 0..r {
-        upward_row(r, i, t);
+        let row = upward_row(r, i, t);
+        ok = ok & row;
     }
+    ok
 }
 
 // All steps that serve every column, and whether they are in range.
@@ -101,7 +125,6 @@ pub fn shared(r: usize, t: &mut [f64; 1024]) -> bool
     ensures { λ ok. ⌜ Shared r (now (t .entry)) (now (t .exit)) ok ⌝ }
 {
     let down = downward(r, t);
-    let up = range::multipliers_in_range(r, t);
-    upward_rows(r, t);
+    let up = upward_rows(r, t);
     down & up
 }

@@ -1,13 +1,15 @@
 // The steps for leaving rates on r stages in compact order, r at most 32 (document 01): the quotients
 // of every system, number for number, and whether every step is in range.
 //
-// The working tables are 1,024 numbers, 32 to a row, whatever r is. Steps and range tests are separate
-// functions: the steps are plain loops over a row, and a test tells its answer from the numbers before
-// the steps. Nothing is asked of the numbers.
+// The working tables are 1,024 numbers, 32 to a row, whatever r is. The steps are plain loops over a
+// row; most range tests are separate functions, which look at far fewer numbers than the steps make
+// (`range`). Nothing is asked of the numbers.
 pub mod columns;
 pub mod downward;
+pub mod least;
 pub mod range;
 pub mod row;
+pub mod upward;
 
 ghost use mathlib.Core.Path.{_≡_};
 ghost use Prim.Native.Nat.{_≤_};
@@ -29,7 +31,7 @@ pub fn solve(r: usize, t: &mut [f64; 1024], b: &mut [f64; 1024]) -> bool
     let shared = downward::shared(r, t);
     columns::identity(r, b);
     let down = columns::down(r, t, b);
-    let up = columns::up(r, t, b);
+    let up = upward::up(r, t, b);
     let last = columns::quotients(r, t, b);
     shared & (down & up & last)
 }

@@ -2,10 +2,10 @@
 ghost use mathlib.Core.Path.{_≡_};
 ghost use Prim.Native.Nat.{_≤_, _<_};
 ghost use lib.ListN.{length};
-ghost use Rattle.elimination.specs.Places.{table32, Holds};
+ghost use Rattle.elimination.specs.Places.{table32, Holds, Gives};
 ghost use Rattle.elimination.specs.Operators.{put, span};
-ghost use Rattle.definitions.specs.Numbers.{0·0};
-ghost use Rattle.elimination.specs.Steps.{plusMultiple, over};
+ghost use Rattle.definitions.specs.Numbers.{0·0, all};
+ghost use Rattle.elimination.specs.Steps.{plusMultiple, over, overInRange};
 
 // The number at place (i, j).
 pub fn get(i: usize, j: usize, a: &[f64; 1024]) -> f64
@@ -35,15 +35,20 @@ pub fn add_multiple(i: usize, k: usize, m: f64, lo: usize, hi: usize, a: &mut [f
     }
 }
 
-// Divides the first r numbers of row i by p.
-pub fn divide(i: usize, p: f64, r: usize, a: &mut [f64; 1024])
+// Divides the first r numbers of row i by p, and tells whether these steps are in range.
+pub fn divide(i: usize, p: f64, r: usize, a: &mut [f64; 1024]) -> bool
     requires { ⌜ (i < 32) × (r ≤ 32) × (length (now a) ≡ 1024) ⌝ }
-    ensures { λ _. ⌜ Holds (now (a .exit)) (span i 0 r (over p (table32 (now (a .entry)) i)) (table32 (now (a .entry)))) ⌝ }
+    ensures { λ ok. ⌜ Gives ok (all (overInRange p (table32 (now (a .entry)) i)) 0 r) (now (a .exit)) (span i 0 r (over p (table32 (now (a .entry)) i)) (table32 (now (a .entry)))) ⌝ }
 {
+    let mut ok = true;
     for j in 0..r {
         let x = get(i, j, a);
-        put(i, j, x / p, a);
+        let q = x / p;
+        let step = rounding::result_in_range(x, p, q);
+        ok = ok & step;
+        put(i, j, q, a);
     }
+    ok
 }
 
 // The first r numbers of row i become zero.

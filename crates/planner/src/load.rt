@@ -3,30 +3,39 @@ ghost use mathlib.Core.Path.{_≡_};
 ghost use Prim.Native.Nat.{_<_};
 ghost use lib.ListN.{length};
 ghost use Rattle.sheet.specs.Places.{Square};
+ghost use Rattle.definitions.specs.Sheet.{place, size};
 ghost use Rattle.elimination.specs.Places.{table32, Holds};
-ghost use Rattle.planner.specs.Loading.{sheetPlace, loadedRow, loadedRows};
+ghost use Rattle.elimination.specs.Operators.{span};
+ghost use Rattle.planner.specs.Loading.{loadedRow, loadedRows};
 use elimination::row;
 
-// The size at place (i, j), or on the diagonal its parameter; a zero of either sign is plus zero.
-fn size_or_diagonal(n: usize, i: usize, j: usize, sheet: &[f64]) -> f64
+// The number at place (i, j) of a sheet.
+fn number_at(n: usize, i: usize, j: usize, sheet: &[f64]) -> f64
     requires { ⌜ Square n (now sheet) × (i < n) × (j < n) ⌝ }
-    ensures { λ r. ⌜ r ≡ sheetPlace n (now (sheet .entry)) i j ⌝ }
+    ensures { λ r. ⌜ r ≡ place n (now (sheet .entry)) i j ⌝ }
 {
-    let x = sheet[i * n + j];
-    if i == j {
-        return x + 0.0;
-    }
-    0.0 - x
+    sheet[i * n + j]
 }
 
+// Row i as if the diagonal place held a size too: one plain loop. A zero of either sign becomes plus zero.
+fn load_sizes(n: usize, i: usize, sheet: &[f64], t: &mut [f64; 1024])
+    requires { ⌜ Square n (now sheet) × (i < n) × (length (now t) ≡ 1024) ⌝ }
+    ensures { λ _. ⌜ Holds (now (t .exit)) (span i 0 n (size n (now (sheet .entry)) i) (table32 (now (t .entry)))) ⌝ }
+{
+    for j in 0..n {
+        let x = number_at(n, i, j, sheet);
+        row::put(i, j, 0.0 - x, t);
+    }
+}
+
+// Row i: the sizes, and the parameter on the diagonal.
 fn load_row(n: usize, i: usize, sheet: &[f64], t: &mut [f64; 1024])
     requires { ⌜ Square n (now sheet) × (i < n) × (length (now t) ≡ 1024) ⌝ }
     ensures { λ _. ⌜ Holds (now (t .exit)) (loadedRow n (now (sheet .entry)) i (table32 (now (t .entry)))) ⌝ }
 {
-    for j in 0..n {
-        let x = size_or_diagonal(n, i, j, sheet);
-        row::put(i, j, x, t);
-    }
+    load_sizes(n, i, sheet, t);
+    let x = number_at(n, i, i, sheet);
+    row::put(i, i, x + 0.0, t);
 }
 
 // All rows.

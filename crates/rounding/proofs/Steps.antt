@@ -1,6 +1,6 @@
 -- What the functions of the steps owe: the range test of a result, by its three questions in order.
 use mathlib.Core.Path.{_≡_, refl, ap}
-use mathlib.Core.Bool.{true, false}
+use mathlib.Core.Bool.{Bool, _&&_, _||_}
 use lib.Ieee.{Float, binary64, eq, lt, ofBits}
 use Rattle.definitions.specs.Numbers.{_⊗_, _⊘_, 0·0, smallest, finite, isZero, mulInRange, divInRange}
 use Rattle.rounding.specs.Steps.{resultInRange}
@@ -26,21 +26,8 @@ pub quotient-test : (x y : Float) → resultInRange x y (x ⊘ y) ≡ divInRange
 unfolding resultInRange divInRange
 quotient-test x y = refl
 
-module _ (x y r : Float) where
-  pub not-finite : finite r ≡ false → false ≡ resultInRange x y r
-  unfolding resultInRange
-  not-finite f = rw f
-
-  module _ (f : finite r ≡ true) where
-    pub first-zero : eq x (ofBits binary64 0) ≡ true → true ≡ resultInRange x y r
-    unfolding resultInRange
-    first-zero z = rw (f, ← is-zero-is x, z)
-
-    module _ (n : eq x (ofBits binary64 0) ≡ false) where
-      pub second-zero : eq y (ofBits binary64 0) ≡ true → true ≡ resultInRange x y r
-      unfolding resultInRange
-      second-zero z = rw (f, ← is-zero-is x, n, ← is-zero-is y, z)
-
-      pub no-zero : eq y (ofBits binary64 0) ≡ false → lt (ofBits binary64 4503599627370496) r ≡ resultInRange x y r
-      unfolding resultInRange
-      no-zero z = rw (f, ← is-zero-is x, n, ← is-zero-is y, z, smallest-word)
+-- The three tests, with the literals.
+pub by-tests : (x y r : Float) {f : Bool} → f ≡ finite r
+    → (f && (eq x (ofBits binary64 0) || eq y (ofBits binary64 0) || lt (ofBits binary64 4503599627370496) r)) ≡ resultInRange x y r
+unfolding resultInRange
+by-tests x y r e = rw (e, is-zero-is x, is-zero-is y, smallest-word)

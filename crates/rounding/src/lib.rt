@@ -40,16 +40,10 @@ pub fn add_in_range(x: f64, y: f64) -> bool
 pub fn result_in_range(x: f64, y: f64, r: f64) -> bool
     ensures { λ q. ⌜ q ≡ resultInRange x y r ⌝ }
 {
-    if !is_finite(r) {
-        return false;
-    }
-    if x == 0.0 {
-        return true;
-    }
-    if y == 0.0 {
-        return true;
-    }
-    2.2250738585072014e-308 < r
+    let finite = is_finite(r);
+    let zero = (x == 0.0) | (y == 0.0);
+    let large = 2.2250738585072014e-308 < r;
+    finite & (zero | large)
 }
 
 pub fn mul_in_range(x: f64, y: f64) -> bool

@@ -1,5 +1,5 @@
 -- Counting the stages that have a property.
-use mathlib.Core.Path.{_≡_, refl, ap, ap₂}
+use mathlib.Core.Path.{_≡_, refl, sym, ap, ap₂}
 use mathlib.Core.Bool.{Bool, true, false}
 use Prim.Native.Nat.{ℕ, zero, suc, _+_, _≤_, _<_}
 use native.Mathlib.Decide.{ℕ-discrete}
@@ -53,3 +53,23 @@ count-tight p q (suc m) f h i l =
       | yes e ↦ rw e (bit-tight (p m) (q m) (f m) (omega arith))
       | no d ↦ count-tight p q m f (omega arith) i (omega arith)
     ]
+
+-- One stage more is counted.
+pub count-more : (p q : ℕ → Bool) (i m : ℕ) → i < m → p i ≡ false → q i ≡ true → ((k : ℕ) → (k ≡ i → ⊥) → p k ≡ q k) → countOf q m ≡ countOf p m + 1
+unfolding countOf
+count-more p q i zero l f t e = absurd (omega arith)
+count-more p q i (suc m) l f t e =
+    elim (ℕ-discrete i m) [
+      | yes s ↦
+          let same = count-same p q m (λ k h. e k (omega arith)) in
+          let f = rw s at f in
+          let t = rw s at t in
+          rw (f, t, same) (omega arith)
+      | no d ↦
+          let more = count-more p q i m (omega arith) f t e in
+          rw (more, e m (λ s. d (sym s))) (omega arith)
+    ]
+
+-- All are counted.
+pub count-full : (p : ℕ → Bool) (m : ℕ) → countOf p m ≡ m → (i : ℕ) → i < m → p i ≡ true
+count-full p m e i l = count-tight p (λ k. true) m (λ k t. tt) (let f = count-few (λ k. true) m in omega (arith, e)) i l

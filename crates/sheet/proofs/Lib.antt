@@ -3,9 +3,9 @@ pub mod Then
 pub mod Shape
 pub mod Rows
 pub mod Places
-pub mod Any
+pub mod Quick
 pub mod Counts
 pub mod Stages
-pub mod Passes
+pub mod Marking
 pub mod Input
 pub mod Chains

@@ -74,3 +74,26 @@ unfolding askStages
 stages-same p q number i zero e = refl
 stages-same p q number i (suc m) e =
     ap₂ (λ yes rest. ask yes number (suc i) 0 then rest) (e i (omega arith)) (stages-same p q number (suc i) m (λ k h. e k (omega arith)))
+
+-- A search of m places from i on in which every place passes.
+scan-pass :
+    (one : ℕ → Asked) (scan : ℕ → ℕ → Asked) → ((i : ℕ) → scan i 0 ≡ pass) → ((i m : ℕ) → scan i (suc m) ≡ (one i then scan (suc i) m))
+    → (i m : ℕ) → ((k : ℕ) → k < i + m → one k ≡ pass) → scan i m ≡ pass
+scan-pass one scan none step i zero h = none i
+scan-pass one scan none step i (suc m) h = step i m ∙ rw (h i (omega arith)) (scan-pass one scan none step (suc i) m (λ k l. h k (omega arith)))
+
+ask-good : {yes : Bool} (number row column : ℕ) → yes ≡ true → ask yes number row column ≡ pass
+ask-good number row column e = rw e
+
+pub rows-pass : (good : ℕ → ℕ → Bool) (number n : ℕ) → ((i j : ℕ) → i < n → j < n → good i j ≡ true) → askRows good number n 0 n ≡ pass
+unfolding askRow askRows
+rows-pass good number n h =
+    scan-pass (λ i. askRow good number i 0 n) (askRows good number n) (λ i. refl) (λ i m. refl) 0 n
+    (λ i hi. scan-pass (λ j. ask (good i j) number (suc i) (suc j)) (askRow good number i) (λ j. refl) (λ j m. refl) 0 n
+    (λ j hj. ask-good number (suc i) (suc j) (h i j (omega arith) (omega arith))))
+
+pub stages-pass : (good : ℕ → Bool) (number n : ℕ) → ((i : ℕ) → i < n → good i ≡ true) → askStages good number 0 n ≡ pass
+unfolding askStages
+stages-pass good number n h =
+    scan-pass (λ i. ask (good i) number (suc i) 0) (askStages good number) (λ i. refl) (λ i m. refl) 0 n
+    (λ i l. ask-good number (suc i) 0 (h i (omega arith)))

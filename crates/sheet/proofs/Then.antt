@@ -30,3 +30,8 @@ both (refuse number row column) next e = (cc, cc)
 pub then-assoc : (p q r : Asked) → ((p then q) then r) ≡ (p then q then r)
 then-assoc pass q r = refl
 then-assoc (refuse number row column) q r = refl
+
+-- Three questions that pass change nothing.
+pub three-pass : (q : Asked) {a b c : Asked} → a ≡ pass → b ≡ pass → c ≡ pass → q ≡ (((q then a) then b) then c)
+three-pass pass e f g = sym (rw (e, f, g))
+three-pass (refuse number row column) e f g = refl

@@ -1,12 +1,8 @@
 -- The marked stages beside their count (question 9).
-use mathlib.Core.Bool.{Bool, true, false, _&&_, _||_}
-use mathlib.Core.List.{List}
+use mathlib.Core.Bool.{Bool, true, false}
 use mathlib.Core.Path.{_≡_}
-use Prim.Native.Nat.{ℕ, zero, suc, _+_, _<_}
+use Prim.Native.Nat.{ℕ, zero, suc, _+_, _≤_, _<_}
 use lib.ListN.{length, getD}
-use lib.Ieee.{Float}
-use Rattle.exact.specs.Chains.{any}
-use Rattle.definitions.specs.Questions.{moves, leaves}
 use Rattle.sheet.specs.declared.Marks.{Marks}
 
 abbrev pub isMarked : Marks → ℕ → Bool
@@ -27,10 +23,12 @@ pub record Marked (p : ℕ → Bool) (m : ℕ) (marks : Marks) : Type 0 where
   pub each : (i : ℕ) → i < m → isMarked marks i ≡ p i
   pub counted : marks .count ≡ countOf p m
 
--- A move from stage i to a stage with p.
-unfoldable pub movesTo : ℕ → List Float → (ℕ → Bool) → ℕ → Bool
-movesTo n sheet p i = any (λ j. moves n sheet i j && p j) 0 n
+-- The count is that of the marked stages.
+abbrev pub Counted : ℕ → Marks → Type 0
+Counted n marks = Marked (isMarked marks) n marks
 
--- What one pass marks: what was marked, the stages with an exit, and those that move to a marked one.
-unfoldable pub leadsOut : ℕ → List Float → (ℕ → Bool) → ℕ → Bool
-leadsOut n sheet p i = p i || leaves n sheet i || movesTo n sheet p i
+-- r is one of n stages that has p and not q, or n where there is none.
+pub record NextStage (p q : ℕ → Bool) (n r : ℕ) : Type 0 where
+  pub inside : r ≤ n
+  pub waits : r < n → (p r ≡ true) × (q r ≡ false)
+  pub none : r ≡ n → (i : ℕ) → i < n → p i ≡ true → q i ≡ true

@@ -1,5 +1,5 @@
 -- What questions 6, 7 and 8 ask of a place, so that one scan serves all three.
-use mathlib.Core.Bool.{Bool, cond}
+use mathlib.Core.Bool.{Bool, true, cond}
 use mathlib.Core.List.{List}
 use mathlib.Core.Path.{_≡_}
 use Prim.Native.Nat.{ℕ, _*_, _≤_}
@@ -22,6 +22,13 @@ signAt reading i j x = cond (eqb i j) (cond (eqb reading 1) (le 0·0 x) (lt 0·0
 -- Question 6, 7 or 8 of that number.
 unfoldable pub passes : ℕ → ℕ → ℕ → ℕ → Float → Bool
 passes question reading i j x = cond (eqb question 6) (finite x) (cond (eqb question 7) (signAt reading i j x) (largeEnough x))
+
+-- The number x passes all three wherever it stands on the diagonal, or off it.
+pub record PassesOn (reading : ℕ) (x : Float) : Type 0 where
+  pub at : (question i : ℕ) → passes question reading i i x ≡ true
+
+pub record PassesOff (x : Float) : Type 0 where
+  pub at : (question reading i j : ℕ) → (i ≡ j → ⊥) → passes question reading i j x ≡ true
 
 -- That question of the place (i, j) of a sheet.
 unfoldable pub placePasses : ℕ → ℕ → ℕ → List Float → ℕ → ℕ → Bool

@@ -1,15 +1,16 @@
 // Questions 1 to 9 of document 01, in its order, for the whole table and for one entry. The two
 // public calls have no `requires`: each question is asked only where the ones before it passed.
-ghost use Prim.Native.Nat.{_+_, _<_, _≤_};
+ghost use Prim.Native.Nat.{ℕ, _<_, _≤_};
 ghost use mathlib.Core.Path.{_≡_};
-ghost use mathlib.Core.Bool.{false, _&&_};
+ghost use mathlib.Core.Bool.{true, false, _&&_, _||_};
 ghost use lib.Dec.{leb};
-ghost use lib.ListN.{set};
+ghost use lib.ListN.{length, getD};
+ghost use lib.Ieee.{nan};
 ghost use Rattle.definitions.specs.Sheet.{place};
 ghost use Rattle.definitions.specs.Questions.{_then_, ask, question1, question2, question3, question4, question5, question9, largeEnough, moves, leaves, getsOut, askStages, numberQuestions, tableInput, entryInput};
 ghost use Rattle.sheet.specs.Asked.{asked, isRefusal};
-ghost use Rattle.sheet.specs.Places.{Square, signAt, passes, askPlaces};
-ghost use Rattle.sheet.specs.Marks.{isMarked, bit, Marked, movesTo, leadsOut};
+ghost use Rattle.sheet.specs.Places.{Square, signAt, passes, PassesOn, PassesOff, askPlaces};
+ghost use Rattle.sheet.specs.Marks.{isMarked, Marked, Counted, NextStage};
 
 // What the questions of a call come to.
 pub enum Asked {
@@ -172,6 +173,73 @@ fn ask_places(earlier: Asked, question: usize, reading: usize, n: usize, sheet: 
     answer
 }
 
+// Questions 6, 7 and 8 of a number x on the diagonal: zero (reading 1), or from 2^-1022 to the largest
+// number. Here and for a size there is no branch, so that a loop over many numbers is fast.
+fn parameter_passes(reading: usize, x: f64) -> bool
+    ensures { λ r. ⌜ (r ≡ true → PassesOn reading x) ⌝ }
+{
+    ((x == 0.0) & (reading == 1)) | ((2.2250738585072014e-308 <= x) & (x <= 1.7976931348623157e308))
+}
+
+fn diagonal_passes(reading: usize, n: usize, sheet: &[f64]) -> bool
+    requires { ⌜ Square n (now sheet) ⌝ }
+    ensures { λ r. ⌜ (r ≡ true → (i : ℕ) → i < n → PassesOn reading (place n (now (sheet .entry)) i i)) ⌝ }
+{
+    let mut good = true;
+    for i in 0..n {
+        good = good & parameter_passes(reading, number_at(sheet, n, i, i));
+    }
+    good
+}
+
+// The same questions of a number x off the diagonal: zero, or from minus the largest number to -2^-1022.
+fn size_passes(x: f64) -> bool
+    ensures { λ r. ⌜ (r ≡ true → PassesOff x) ⌝ }
+{
+    (x == 0.0) | ((-1.7976931348623157e308 <= x) & (x <= -2.2250738585072014e-308))
+}
+
+fn stretch_passes(part: &[f64]) -> bool
+    ensures { λ r. ⌜ (r ≡ true → (k : ℕ) → k < length (now (part .entry)) → PassesOff (getD (now (part .entry)) k nan)) ⌝ }
+{
+    let mut good = true;
+    let mut k = 0;
+    while k < part.len() {
+        good = good & size_passes(part[k]);
+        k += 1;
+    }
+    good
+}
+
+// All numbers off the diagonal: the n numbers before each of its places but the first.
+fn sizes_pass(n: usize, sheet: &[f64]) -> bool
+    requires { ⌜ Square n (now sheet) ⌝ }
+    ensures { λ r. ⌜ (r ≡ true → (i j : ℕ) → i < n → j < n → (i ≡ j → ⊥) → PassesOff (place n (now (sheet .entry)) i j)) ⌝ }
+{
+    for i in 1..n {
+        let to = i * n + i;
+        let from = to - n;
+        if !stretch_passes(&sheet[from..to]) {
+            return false;
+        }
+    }
+    true
+}
+
+// Questions 6, 7 and 8, unless an earlier question refused. The quick pass tells that all numbers are
+// good; where it does not, the scans find the first bad place.
+fn ask_all_places(earlier: Asked, reading: usize, n: usize, sheet: &[f64]) -> Asked
+    requires { ⌜ Square n (now sheet) ⌝ }
+    ensures { λ r. ⌜ asked r ≡ (((asked earlier then askPlaces 6 reading n (now (sheet .entry))) then askPlaces 7 reading n (now (sheet .entry))) then askPlaces 8 reading n (now (sheet .entry))) ⌝ }
+{
+    if diagonal_passes(reading, n, sheet) && sizes_pass(n, sheet) {
+        return earlier;
+    }
+    let finite = ask_places(earlier, 6, reading, n, sheet);
+    let signs = ask_places(finite, 7, reading, n, sheet);
+    ask_places(signs, 8, reading, n, sheet)
+}
+
 // Whether there is a move from stage i to stage j: the size of a move is 0.0 minus its number.
 fn moves_from_to(sheet: &[f64], n: usize, i: usize, j: usize) -> bool
     requires { ⌜ Square n (now sheet) × (i < n) × (j < n) ⌝ }
@@ -188,24 +256,16 @@ fn has_exit(sheet: &[f64], n: usize, i: usize) -> bool
     0.0 < number_at(sheet, n, i, i) + 0.0
 }
 
-fn moves_to_marked(sheet: &[f64], n: usize, marks: Marks, i: usize) -> bool
-    requires { ⌜ Square n (now sheet) × (i < n) ⌝ }
-    ensures { λ r. ⌜ r ≡ movesTo n (now (sheet .entry)) (isMarked marks) i ⌝ }
+// Quick pass of question 9: every stage has an exit.
+fn all_leave(sheet: &[f64], n: usize) -> bool
+    requires { ⌜ Square n (now sheet) ⌝ }
+    ensures { λ r. ⌜ (r ≡ true → (i : ℕ) → i < n → leaves n (now (sheet .entry)) i ≡ true) ⌝ }
 {
-    for j in 0..n {
-        if marks.marked[j] && moves_from_to(sheet, n, i, j) {
-            return true;
-        }
+    let mut all = true;
+    for i in 0..n {
+        all = all & has_exit(sheet, n, i);
     }
-    false
-}
-
-// Whether the next pass marks stage i.
-fn leads_out(sheet: &[f64], n: usize, marks: Marks, i: usize) -> bool
-    requires { ⌜ Square n (now sheet) × (i < n) ⌝ }
-    ensures { λ r. ⌜ r ≡ leadsOut n (now (sheet .entry)) (isMarked marks) i ⌝ }
-{
-    marks.marked[i] || has_exit(sheet, n, i) || moves_to_marked(sheet, n, marks, i)
+    all
 }
 
 fn no_marks() -> Marks
@@ -217,43 +277,66 @@ fn no_marks() -> Marks
     }
 }
 
-// Stage i is marked if `out`, and then counted.
-fn with_stage(marks: Marks, i: usize, out: bool) -> Marks
-    requires { ⌜ (i < 32) × (marks .count < 32) ⌝ }
-    ensures { λ r. ⌜ (r .marked ≡ set (marks .marked) i out) × (r .count ≡ marks .count + bit out) ⌝ }
-{
-    let mut next = marks;
-    next.marked[i] = out;
-    if out {
-        next.count += 1;
-    }
-    next
-}
-
-// One pass over the stages: what was marked stays, and those with an exit or a move to a marked stage are added.
-fn grow(sheet: &[f64], n: usize, marks: Marks) -> Marks
+// The stages with an exit.
+fn exits(sheet: &[f64], n: usize) -> Marks
     requires { ⌜ Square n (now sheet) ⌝ }
-    ensures { λ r. ⌜ Marked (leadsOut n (now (sheet .entry)) (isMarked marks)) n r ⌝ }
+    ensures { λ r. ⌜ Marked (leaves n (now (sheet .entry))) n r ⌝ }
 {
     let mut next = no_marks();
     for i in 0..n {
-        next = with_stage(next, i, leads_out(sheet, n, marks, i));
+        if has_exit(sheet, n, i) {
+            next.marked[i] = true;
+            next.count += 1;
+        }
     }
     next
 }
 
-// The stages that get out. Each pass marks a new stage or is the last, so there are at most n + 1.
+// The marked stages, and those with a move to stage j.
+fn mark_movers(sheet: &[f64], n: usize, marks: Marks, j: usize) -> Marks
+    requires { ⌜ Square n (now sheet) × (j < n) × Counted n marks ⌝ }
+    ensures { λ r. ⌜ Marked (λ i. isMarked marks i || moves n (now (sheet .entry)) i j) n r ⌝ }
+{
+    let mut next = marks;
+    for i in 0..n {
+        if !next.marked[i] && moves_from_to(sheet, n, i, j) {
+            next.marked[i] = true;
+            next.count += 1;
+        }
+    }
+    next
+}
+
+// The first marked stage that is not done, or n.
+fn next_stage(marks: Marks, done: &[bool; 32], n: usize) -> usize
+    requires { ⌜ n ≤ 32 ⌝ }
+    ensures { λ r. ⌜ NextStage (isMarked marks) (λ i. getD (now (done .entry)) i false) n r ⌝ }
+{
+    for i in 0..n {
+        if marks.marked[i] && !done[i] {
+            return i;
+        }
+    }
+    n
+}
+
+// The stages that get out. A stage is done once all that move to it are marked, so there are at most n turns.
 fn reach(sheet: &[f64], n: usize) -> Marks
     requires { ⌜ Square n (now sheet) ⌝ }
     ensures { λ r. ⌜ Marked (getsOut n (now (sheet .entry))) n r ⌝ }
 {
-    let mut marks = no_marks();
+    let mut marks = exits(sheet, n);
+    let mut done = [false; 32];
     loop {
-        let grown = grow(sheet, n, marks);
-        if grown.count == marks.count {
-            return grown;
+        if marks.count == n {
+            return marks;
         }
-        marks = grown;
+        let j = next_stage(marks, &done, n);
+        if j == n {
+            return marks;
+        }
+        marks = mark_movers(sheet, n, marks, j);
+        done[j] = true;
     }
 }
 
@@ -285,6 +368,9 @@ fn ask_trapped(earlier: Asked, reading: usize, n: usize, sheet: &[f64]) -> Asked
     if reading != 1 {
         return Asked::Pass;
     }
+    if all_leave(sheet, n) {
+        return Asked::Pass;
+    }
     ask_marked(reach(sheet, n), n)
 }
 
@@ -293,10 +379,8 @@ fn ask_numbers(earlier: Asked, reading: usize, n: usize, sheet: &[f64]) -> Asked
     requires { ⌜ Square n (now sheet) ⌝ }
     ensures { λ r. ⌜ asked r ≡ (asked earlier then numberQuestions reading n (now (sheet .entry))) ⌝ }
 {
-    let finite = ask_places(earlier, 6, reading, n, sheet);
-    let signs = ask_places(finite, 7, reading, n, sheet);
-    let sizes = ask_places(signs, 8, reading, n, sheet);
-    ask_trapped(sizes, reading, n, sheet)
+    let places = ask_all_places(earlier, reading, n, sheet);
+    ask_trapped(places, reading, n, sheet)
 }
 
 // The questions of the whole table that come before its steps; `room` is the length of the answer area.

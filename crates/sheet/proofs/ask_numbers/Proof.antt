@@ -7,31 +7,16 @@ use Rattle.sheet.proofs.Places.{numbers-in-order}
 use Rattle.sheet.proofs.ask_numbers.Statement.{statement}
 use Rattle.sheet.proofs.ask_numbers.Tie as tie
 
-ask-places-requires : tie.Need-ask-places-requires
-ask-places-requires c κs = search needs
-
-ask-places-requires-2 : tie.Need-ask-places-requires-2
-ask-places-requires-2 c κs = search needs
-
-ask-places-requires-3 : tie.Need-ask-places-requires-3
-ask-places-requires-3 c κs = search needs
+ask-all-places-requires : tie.Need-ask-all-places-requires
+ask-all-places-requires c κs = search needs
 
 ask-trapped-requires : tie.Need-ask-trapped-requires
 ask-trapped-requires c κs = search needs
 
 returns : tie.Need-returns
 returns c =
-    let a = c .before .before .before .before .before .args in
-    c .ask-trapped .ensures
-    ∙ rw (c .before .ask-places3 .ensures, c .before .before .ask-places2 .ensures, c .before .before .before .ask-places .ensures)
-    (numbers-in-order a.reading a.n (now a.sheet) (asked a.earlier))
+    let a = c .before .before .before .args in
+    c .ask-trapped .ensures ∙ rw (c .before .ask-all-places .ensures) (numbers-in-order a.reading a.n (now a.sheet) (asked a.earlier))
 
 pub ask-numbers-spec : {M : Type 1} → statement M
-ask-numbers-spec =
-    tie.close
-    (tie.spec
-    ask-places-requires
-    ask-places-requires-2
-    ask-places-requires-3
-    ask-trapped-requires
-    returns)
+ask-numbers-spec = tie.close (tie.spec ask-all-places-requires ask-trapped-requires returns)

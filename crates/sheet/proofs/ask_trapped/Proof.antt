@@ -8,7 +8,8 @@ use Rattle.definitions.specs.Questions.{_then_, question9, getsOut}
 use Rattle.sheet.specs.Asked.{asked}
 use Rattle.sheet.specs.Marks.{isMarked}
 use Rattle.sheet.proofs.Then.{ends, goes-on}
-use Rattle.sheet.proofs.Rows.{stages-same}
+use Rattle.sheet.proofs.Rows.{stages-same, stages-pass}
+use Rattle.sheet.proofs.Marking.{leaves-out}
 use Rattle.sheet.proofs.ask_trapped.Statement.{statement}
 use Rattle.sheet.proofs.ask_trapped.Tie as tie
 
@@ -28,21 +29,41 @@ returns-2 : tie.Need-returns-2
 unfolding question9
 returns-2 c = sym (asked-after (c .before) ∙ rw (ne-eqb _ 1 (c .if2 .taken)))
 
+all-leave-requires : tie.Need-all-leave-requires
+all-leave-requires c κs = search needs
+
+returns-3 : tie.Need-returns-3
+unfolding question9
+returns-3 c =
+    let a = c .before .before .before .before .before .before .args in
+    let all = c .before .all-leave .ensures (c .if3 .taken) in
+    sym
+    (asked-after (c .before .before .before)
+    ∙ rw (eq-eqb a.reading 1 (c .before .before .if2 .left)) (stages-pass (getsOut a.n (now a.sheet)) 9 a.n (λ i l. leaves-out a.n (now a.sheet) i l (all i l))))
+
 reach-requires : tie.Need-reach-requires
 reach-requires c κs = search needs
 
 ask-marked-requires : tie.Need-ask-marked-requires
 ask-marked-requires c κs = search needs
 
-returns-3 : tie.Need-returns-3
+returns-4 : tie.Need-returns-4
 unfolding question9
-returns-3 c =
-    let a = c .before .before .before .before .before .before .args in
+returns-4 c =
+    let a = c .before .before .before .before .before .before .before .before .args in
     c .ask-marked .ensures
     ∙ stages-same (isMarked (c .before .reach .result)) (getsOut a.n (now a.sheet)) 9 0 a.n (λ i h. c .before .reach .ensures .each i (omega arith))
-    ∙ sym (asked-after (c .before .before .before) ∙ rw (eq-eqb a.reading 1 (c .before .before .if2 .left)))
+    ∙ sym (asked-after (c .before .before .before .before .before) ∙ rw (eq-eqb a.reading 1 (c .before .before .before .before .if2 .left)))
 
 pub ask-trapped-spec : {M : Type 1} → statement M
 ask-trapped-spec =
     tie.close
-    (tie.spec is-refusal-requires returns returns-2 reach-requires ask-marked-requires returns-3)
+    (tie.spec
+    is-refusal-requires
+    returns
+    returns-2
+    all-leave-requires
+    returns-3
+    reach-requires
+    ask-marked-requires
+    returns-4)

@@ -1,37 +1,63 @@
 -- `sheet::reach` meets its contract. Assumes nothing.
-use Prim.Native.Nat.{_-_}
+use mathlib.Core.Path.{_≡_}
+use mathlib.Core.Bool.{true, false}
+use Prim.Native.Nat.{_<_}
 use native.Mathlib.Omega.{arith}
 use borrow.Author.Needs.{needs}
-use Rattle.sheet.proofs.Passes.{Passed, none-passed, count-grows, count-within, pass-again, pass-last}
+use Rattle.sheet.specs.Marks.{isMarked}
+use Rattle.sheet.proofs.Marking.{isDone, toDo, Reached, reached-begins, reached-turns, fewer-to-do, reached-all, reached-closed}
 use Rattle.sheet.proofs.reach.Statement.{statement}
 use Rattle.sheet.proofs.reach.Tie as tie
 
 abbrev Inv-loop : tie.InvT-loop
-Inv-loop sheet n marks₀ marks = Passed n sheet marks
+Inv-loop sheet n marks₀ done₀ marks done = Reached n sheet marks done
 
 abbrev μ-loop : tie.MeasureT-loop
-μ-loop sheet n marks₀ marks = n - marks .count
+μ-loop sheet n marks₀ done₀ marks done = toDo n done
 
-no-marks-requires : tie.Need-no-marks-requires Inv-loop μ-loop
-no-marks-requires c κs = search needs
+exits-requires : tie.Need-exits-requires Inv-loop μ-loop
+exits-requires c κs = search needs
 
 loop-holds : tie.Need-loop-holds Inv-loop μ-loop
-loop-holds c = none-passed _ _ (c .before .before .pre .few) (c .no-marks .ensures)
-
-grow-requires : tie.Need-grow-requires Inv-loop μ-loop
-grow-requires c κs = c .before .before .before .pre
+loop-holds c = reached-begins _ _ (c .before .before .pre .few) (c .exits .ensures)
 
 returns : tie.Need-returns Inv-loop μ-loop
-returns c = pass-last _ _ (c .before .before .before .before .loop .inv) (c .before .before .before .grow .ensures) (c .if1 .taken)
+returns c = reached-all _ _ (c .before .before .loop .inv) (c .if1 .taken)
+
+next-stage-requires : tie.Need-next-stage-requires Inv-loop μ-loop
+next-stage-requires c κs = c .before .before .before .before .before .before .pre .few
+
+returns-2 : tie.Need-returns-2 Inv-loop μ-loop
+returns-2 c = reached-closed _ _ (c .before .before .before .before .before .loop .inv) (c .before .next-stage .ensures .none (c .if2 .taken))
+
+-- Stage j is marked and not done.
+waits : (c : tie.Else2 Inv-loop μ-loop) →
+    let a = c .before .before .before .before .before .before .before .before .args in
+    let at = c .before .before .before .before .before .loop in
+    let j = c .before .next-stage .result in
+    (j < a.n) × (isMarked (at .marks) j ≡ true) × (isDone (at .done) j ≡ false)
+waits c =
+    let s = c .before .next-stage .ensures in
+    let l : c .before .next-stage .result < c .before .before .before .before .before .before .before .before .args .n = omega (arith, s .inside) in
+    (l, s .waits l .0, s .waits l .1)
+
+mark-movers-requires : tie.Need-mark-movers-requires Inv-loop μ-loop
+mark-movers-requires c κs = (c .before .before .before .before .before .before .before .before .pre, waits c .0, c .before .before .before .before .before .loop .inv .counted)
+
+array-write-done : tie.Need-array-write-done Inv-loop μ-loop
+array-write-done c = omega (arith, waits (c .before) .0)
 
 loop-less : tie.Need-loop-less Inv-loop μ-loop
 loop-less c =
-    let g = count-grows _ _ (c .before .before .before .before .loop .inv) (c .before .before .before .grow .ensures) in
-    let w = count-within _ _ (c .before .before .before .before .loop .inv) (c .before .before .before .grow .ensures) in
-    omega arith
+    let e = c .before in
+    let at = e .before .before .before .before .before in
+    fewer-to-do _ _ (at .loop .inv) (at .before .before .before .pre .few) (waits e .0) (waits e .1, waits e .2) (c .mark-movers .ensures)
 
 loop-again : tie.Need-loop-again Inv-loop μ-loop
-loop-again c = pass-again _ _ (c .before .before .before .before .loop .inv) (c .before .before .before .grow .ensures) (c .if1 .left)
+loop-again c =
+    let e = c .before in
+    let at = e .before .before .before .before .before in
+    reached-turns _ _ (at .loop .inv) (at .before .before .before .pre .few) (waits e .0) (waits e .1, waits e .2) (c .mark-movers .ensures)
 
 pub reach-spec : {M : Type 1} → statement M
 reach-spec =
@@ -39,9 +65,12 @@ reach-spec =
     (tie.spec
     Inv-loop
     μ-loop
-    no-marks-requires
+    exits-requires
     loop-holds
-    grow-requires
     returns
+    next-stage-requires
+    returns-2
+    mark-movers-requires
+    array-write-done
     loop-less
     loop-again)

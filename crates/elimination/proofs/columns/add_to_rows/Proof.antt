@@ -1,38 +1,59 @@
--- `elimination::columns::add_to_rows` meets its contract: at row i the rows from lo before it are done. Assumes nothing.
-use mathlib.Core.Path.{refl}
-use Prim.Native.Nat.{_≤_, _-_}
+-- `elimination::columns::add_to_rows` meets its contract: at row i the rows after k before it are done, and their steps told. Assumes nothing.
+use Prim.Native.Nat.{_≤_, _-_, suc}
 use native.Mathlib.Nat.{le-refl}
+use native.Mathlib.Numerals.{add-one}
 use native.Mathlib.Omega.{arith}
 use borrow.Author.Needs.{needs}
+use Rattle.definitions.specs.Numbers.{all}
 use Rattle.elimination.specs.Places.{table32}
 use Rattle.elimination.specs.Operators.{between, span}
-use Rattle.elimination.specs.Steps.{plusMultiple, rowsAdded}
+use Rattle.elimination.specs.Steps.{plusMultiple, plusMultipleInRange, rowsAdded, rowsAddedInRange}
+use Rattle.elimination.specs.Told.{FiniteRow}
 use Rattle.elimination.proofs.Loops.{Down, down-begins, down-due, down-else, down-turns, down-ends}
 use Rattle.elimination.proofs.RowSteps.{row-sum-same}
+use Rattle.elimination.proofs.Told.{ToldEach, told-begins, told-turns, told-ends}
 use Rattle.elimination.proofs.columns.add_to_rows.Statement.{statement}
 use Rattle.elimination.proofs.columns.add_to_rows.Tie as tie
 
 abbrev Inv-loop : tie.InvT-loop
-Inv-loop k lo hi c t b₀ i₀ b i = (i ≤ hi) × Down lo (λ l. between 0 c (plusMultiple (table32 t l k) (table32 b₀ l) (table32 b₀ k)) (table32 b₀ l)) (table32 b₀) b i
+Inv-loop r k lo t b₀ ok₀ i₀ b ok i =
+    (i ≤ r)
+    × Down (suc k) (λ l. between 0 (suc k) (plusMultiple (table32 t l k) (table32 b₀ l) (table32 b₀ k)) (table32 b₀ l)) (table32 b₀) b i
+    × ToldEach (λ l. all (plusMultipleInRange (table32 t l k) (table32 b₀ l) (table32 b₀ k)) 0 (suc k)) (λ l. FiniteRow (suc k) (plusMultiple (table32 t l k) (table32 b₀ l) (table32 b₀ k))) (suc k) i ok
 
 abbrev μ-loop : tie.MeasureT-loop
-μ-loop k lo hi c t b₀ i₀ b i = hi - i
+μ-loop r k lo t b₀ ok₀ i₀ b ok i = r - i
+
+add-i : tie.Need-add-i Inv-loop μ-loop
+add-i c = search needs
 
 loop-holds : tie.Need-loop-holds Inv-loop μ-loop
-loop-holds c = (search needs, down-begins refl (c .pre .6))
+loop-holds c = (search needs, down-begins (add-one (c .args .k)) (c .pre .3), told-begins (add-one (c .args .k)))
 
 get-requires : tie.Need-get-requires Inv-loop μ-loop
 get-requires c κs = search needs
 
+add-multiple-told : tie.Need-add-multiple-told Inv-loop μ-loop
+add-multiple-told c = search needs
+
+multiple-told-requires : tie.Need-multiple-told-requires Inv-loop μ-loop
+multiple-told-requires c κs =
+    let l = c .before .before .before in
+    let s = l .before in
+    let k = s .args .k in
+    let h = l .loop .inv .1 in
+    (omega arith, omega arith, h .holds .long, rw (add-one k, down-else h k (λ a b. omega arith)) (s .pre .4))
+
+add-add-multiple : tie.Need-add-add-multiple Inv-loop μ-loop
+add-add-multiple c = search needs
+
 add-multiple-requires : tie.Need-add-multiple-requires Inv-loop μ-loop
 add-multiple-requires c κs =
-    let l = c .before .before .before in
-    let s = l .before .pre in
-    let h = l .loop .inv .1 in
-    (omega arith, s .0, (λ e. s .4 (rw (← e) at (h .from)) (omega arith)), search needs, s .3, h .holds .long)
+    let h = c .before .before .before .before .before .loop .inv .1 in
+    (omega arith, omega arith, (λ e. omega (arith, h .from)), omega arith, omega arith, h .holds .long)
 
-add-i : tie.Need-add-i Inv-loop μ-loop
-add-i c = search needs
+add-i-2 : tie.Need-add-i-2 Inv-loop μ-loop
+add-i-2 c = search needs
 
 loop-less : tie.Need-loop-less Inv-loop μ-loop
 loop-less c = search needs
@@ -40,14 +61,23 @@ loop-less c = search needs
 loop-again : tie.Need-loop-again Inv-loop μ-loop
 unfolding span
 loop-again c =
-    let l = c .before .before .before .before in
-    let k = l .before .args .k in
+    let told = c .before .before in
+    let got = told .before .before in
+    let l = got .before .before in
+    let s = l .before .args in
+    let k = s .k in
+    let i = l .loop .i in
+    let f = table32 (l .loop .b) in
     let h = l .loop .inv .1 in
-    (omega arith, down-turns h (c .add-multiple .ensures) (row-sum-same (l .before .args .c) (c .before .before .get .ensures) (down-due h (l .loop .i) (le-refl (l .loop .i))) (down-else h k (λ a b. l .before .pre .4 a (omega arith)))))
+    let m = got .get .ensures in
+    let other = down-else h k (λ a b. omega arith) in
+    (omega arith, down-turns h {row = between 0 (suc k) (plusMultiple (got .get .result) (f i) (f k)) (f i)} (rw (add-one k) at (c .add-multiple .ensures)) (row-sum-same (suc k) m (down-due h i (le-refl i)) other), told-turns (l .loop .inv .2) (rw (add-one k, m, other) at (told .multiple-told .ensures (table32 (s .b .now) i))))
 
 returns : tie.Need-returns Inv-loop μ-loop
-unfolding rowsAdded
-returns c = down-ends (c .before .loop .inv .1) (omega arith) (omega arith)
+unfolding rowsAdded rowsAddedInRange
+returns c =
+    let l = c .before .loop in
+    record { told = told-ends (l .inv .2) (omega arith) (omega arith); holds = down-ends (l .inv .1) (omega arith) (omega arith) }
 
 pub add-to-rows-spec : {M : Type 1} → statement M
 add-to-rows-spec =
@@ -55,10 +85,14 @@ add-to-rows-spec =
     (tie.spec
     Inv-loop
     μ-loop
+    add-i
     loop-holds
     get-requires
+    add-multiple-told
+    multiple-told-requires
+    add-add-multiple
     add-multiple-requires
-    add-i
+    add-i-2
     loop-less
     loop-again
     returns)

@@ -8,6 +8,12 @@ use Rattle.elimination.proofs.downward.eliminate_row.Tie as tie
 get-requires : tie.Need-get-requires
 get-requires c κs = search needs
 
+row-told-requires : tie.Need-row-told-requires
+row-told-requires c κs =
+    let g = c .before .before in
+    let p = g .before .before .pre in
+    (p .0, p .1, p .2, p .3, p .4, rw (g .get .ensures), p .5)
+
 get-requires-2 : tie.Need-get-requires-2
 get-requires-2 c κs = search needs
 
@@ -26,17 +32,23 @@ put-requires-2 c κs = search needs
 returns : tie.Need-returns
 returns c =
     let a = c .before .before .before .before in
-    let g = a .before .before .before in
-    let s = g .before .before .before .before .before in
-    row-eliminated (s .args .r) (s .args .k) (s .args .i) (s .args .stage .s) (s .args .stage .p) (table32 (s .args .t .now)) (a .add-multiple .ensures) (c .before .before .put .ensures) (c .put2 .ensures)
-    (rw (g .before .before .before .get .ensures))
-    (rw (g .get2 .ensures))
+    let e = a .before .before .before in
+    let t = e .before .before in
+    let g = t .before .before .before in
+    let s = g .before .before in
+    record {
+      told = t .row-told .ensures;
+      holds = row-eliminated (s .args .r) (s .args .k) (s .args .i) (s .args .stage .s) (s .args .stage .p) (table32 (s .args .t .now)) (a .add-multiple .ensures) (c .before .before .put .ensures) (c .put2 .ensures)
+          (rw (g .get .ensures))
+          (rw (e .get2 .ensures));
+    }
 
 pub eliminate-row-spec : {M : Type 1} → statement M
 eliminate-row-spec =
     tie.close
     (tie.spec
     get-requires
+    row-told-requires
     get-requires-2
     add-add-multiple
     add-multiple-requires

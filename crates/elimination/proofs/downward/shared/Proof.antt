@@ -7,19 +7,15 @@ use Rattle.elimination.proofs.downward.shared.Tie as tie
 downward-requires : tie.Need-downward-requires
 downward-requires c κs = search needs
 
-multipliers-in-range-requires : tie.Need-multipliers-in-range-requires
-multipliers-in-range-requires c κs = search needs
-
 upward-rows-requires : tie.Need-upward-rows-requires
 upward-rows-requires c κs = search needs
 
 returns : tie.Need-returns
 returns c =
-    let d = c .before .before .before .before in
+    let d = c .before .before in
     let s = d .before .before in
-    shared-gives (s .args .r) (s .pre .0) (s .args .t .now) (d .downward .ensures) (c .before .before .multipliers-in-range .ensures) (c .upward-rows .ensures)
+    shared-gives (s .args .r) (s .pre .0) (s .args .t .now) (d .downward .ensures) (c .upward-rows .ensures)
 
 pub shared-spec : {M : Type 1} → statement M
 shared-spec =
-    tie.close
-    (tie.spec downward-requires multipliers-in-range-requires upward-rows-requires returns)
+    tie.close (tie.spec downward-requires upward-rows-requires returns)

@@ -4,30 +4,35 @@ use Prim.Native.Nat.{_≤_, _-_, suc}
 use native.Mathlib.Numerals.{add-one}
 use native.Mathlib.Omega.{arith}
 use borrow.Author.Needs.{needs}
+use Rattle.rounding.proofs.Steps.{quotient-test}
 use Rattle.elimination.specs.Places.{table32}
-use Rattle.elimination.specs.Steps.{overPivot}
+use Rattle.elimination.specs.Steps.{overPivot, overPivotInRange, rowMultipliersInRange}
+use Rattle.elimination.proofs.Flags.{Gathered, gathered-begins, gathered-turns, gathered-ends}
 use Rattle.elimination.proofs.Loops.{Along, along-begins, along-due, along-else, along-turns, along-ends}
-use Rattle.elimination.proofs.RowSteps.{over-pivot}
+use Rattle.elimination.proofs.RowSteps.{over-pivot, over-pivot-test}
 use Rattle.elimination.proofs.downward.upward_row.Statement.{statement}
 use Rattle.elimination.proofs.downward.upward_row.Tie as tie
 
 abbrev Inv-loop : tie.InvT-loop
-Inv-loop r i t₀ k₀ t k = (k ≤ r) × Along i (suc i) (overPivot (table32 t₀) i) (table32 t₀) t k
+Inv-loop r i t₀ ok₀ k₀ t ok k = (k ≤ r) × Along i (suc i) (overPivot (table32 t₀) i) (table32 t₀) t k × Gathered (λ l. overPivotInRange (table32 t₀) l i) (suc i) k ok
 
 abbrev μ-loop : tie.MeasureT-loop
-μ-loop r i t₀ k₀ t k = r - k
+μ-loop r i t₀ ok₀ k₀ t ok k = r - k
 
 add-k : tie.Need-add-k Inv-loop μ-loop
 add-k c = search needs
 
 loop-holds : tie.Need-loop-holds Inv-loop μ-loop
-loop-holds c = (search needs, along-begins (add-one (c .args .i)) (c .pre .2))
+loop-holds c = (search needs, along-begins (add-one (c .args .i)) (c .pre .2), gathered-begins (add-one (c .args .i)))
 
 get-requires : tie.Need-get-requires Inv-loop μ-loop
 get-requires c κs = search needs
 
 get-requires-2 : tie.Need-get-requires-2 Inv-loop μ-loop
 get-requires-2 c κs = search needs
+
+result-in-range-requires : tie.Need-result-in-range-requires Inv-loop μ-loop
+result-in-range-requires c κs = search needs
 
 put-requires : tie.Need-put-requires Inv-loop μ-loop
 put-requires c κs = search needs
@@ -40,13 +45,25 @@ loop-less c = search needs
 
 loop-again : tie.Need-loop-again Inv-loop μ-loop
 loop-again c =
-    let l = c .before .before .before .before .before .before .before in
+    let q = c .before .before in
+    let p = q .before in
+    let x = p .before .before in
+    let l = x .before .before .before in
     let s = l .before .args in
     let h = l .loop .inv .1 in
-    (omega arith, along-turns h (c .put .ensures) (over-pivot (table32 (s .t .now)) (s .i) (l .loop .k) (c .before .before .before .before .get .ensures ∙ along-due h) (c .before .before .get2 .ensures ∙ along-else h (l .loop .k) (l .loop .k) (λ e. omega (arith, h .from)))))
+    let f = table32 (s .t .now) in
+    let a = x .get .ensures ∙ along-due h in
+    let b = p .get2 .ensures ∙ along-else h (l .loop .k) (l .loop .k) (λ e. omega (arith, h .from)) in (
+      omega arith,
+      along-turns h (c .put .ensures) (over-pivot f (s .i) (l .loop .k) a b),
+      gathered-turns (l .loop .inv .2) (over-pivot-test f (s .i) (l .loop .k) a b (q .result-in-range .ensures ∙ quotient-test (x .get .result) (p .get2 .result))),
+    )
 
 returns : tie.Need-returns Inv-loop μ-loop
-returns c = along-ends (c .before .loop .inv .1) (omega arith) (omega arith)
+unfolding rowMultipliersInRange
+returns c =
+    let h = c .before .loop .inv in
+    record { range = gathered-ends (h .2) (omega arith) (omega arith); holds = along-ends (h .1) (omega arith) (omega arith) }
 
 pub upward-row-spec : {M : Type 1} → statement M
 upward-row-spec =
@@ -58,6 +75,7 @@ upward-row-spec =
     loop-holds
     get-requires
     get-requires-2
+    result-in-range-requires
     put-requires
     add-k-2
     loop-less

@@ -1,24 +1,28 @@
 -- `elimination::downward::upward_rows` meets its contract: at row i the rows before it are done. Assumes nothing.
-use mathlib.Core.Path.{refl}
+use mathlib.Core.Path.{refl, _∙_}
 use Prim.Native.Nat.{_≤_, _-_, suc}
 use native.Mathlib.Omega.{arith}
 use borrow.Author.Needs.{needs}
 use Rattle.elimination.specs.Places.{table32}
 use Rattle.elimination.specs.Operators.{between, span}
-use Rattle.elimination.specs.Steps.{overPivot, upwardRows}
-use Rattle.elimination.proofs.DownwardLaws.{upward-same}
+use Rattle.elimination.specs.Steps.{overPivot, upwardRows, rowMultipliersInRange}
+use Rattle.elimination.proofs.DownwardLaws.{upward-same, upward-tests-same}
+use Rattle.elimination.proofs.Flags.{Gathered, gathered-begins, gathered-turns, gathered-all}
 use Rattle.elimination.proofs.Loops.{Down, down-begins, down-due, down-turns, down-ends}
 use Rattle.elimination.proofs.downward.upward_rows.Statement.{statement}
 use Rattle.elimination.proofs.downward.upward_rows.Tie as tie
 
 abbrev Inv-loop : tie.InvT-loop
-Inv-loop r t₀ i₀ t i = (i ≤ r) × Down 0 (λ l. between (suc l) r (overPivot (table32 t₀) l) (table32 t₀ l)) (table32 t₀) t i
+Inv-loop r t₀ ok₀ i₀ t ok i =
+    (i ≤ r)
+    × Down 0 (λ l. between (suc l) r (overPivot (table32 t₀) l) (table32 t₀ l)) (table32 t₀) t i
+    × Gathered (rowMultipliersInRange r (table32 t₀)) 0 i ok
 
 abbrev μ-loop : tie.MeasureT-loop
-μ-loop r t₀ i₀ t i = r - i
+μ-loop r t₀ ok₀ i₀ t ok i = r - i
 
 loop-holds : tie.Need-loop-holds Inv-loop μ-loop
-loop-holds c = (search needs, down-begins refl (c .pre .1))
+loop-holds c = (search needs, down-begins refl (c .pre .1), gathered-begins refl)
 
 upward-row-requires : tie.Need-upward-row-requires Inv-loop μ-loop
 upward-row-requires c κs = search needs
@@ -35,11 +39,18 @@ loop-again c =
     let l = c .before .before .before in
     let s = l .before .args in
     let h = l .loop .inv .1 in
-    (omega arith, down-turns h (c .upward-row .ensures) (upward-same (s .r) (l .loop .i) (table32 (l .loop .t)) (table32 (s .t .now)) (down-due h)))
+    let g = c .upward-row .ensures in
+    let f = table32 (l .loop .t) in (
+      omega arith,
+      down-turns h (g .holds) (upward-same (s .r) (l .loop .i) f (table32 (s .t .now)) (down-due h)),
+      gathered-turns (l .loop .inv .2) (g .range ∙ upward-tests-same (s .r) (l .loop .i) f (table32 (s .t .now)) (down-due h)),
+    )
 
 returns : tie.Need-returns Inv-loop μ-loop
 unfolding upwardRows
-returns c = down-ends (c .before .loop .inv .1) (omega arith) (omega arith)
+returns c =
+    let h = c .before .loop .inv in
+    record { range = gathered-all (h .2) (omega arith) (omega arith); holds = down-ends (h .1) (omega arith) (omega arith) }
 
 pub upward-rows-spec : {M : Type 1} → statement M
 upward-rows-spec =

@@ -1,26 +1,31 @@
--- `elimination::row::divide` meets its contract: at column j the columns before it are done. Assumes nothing.
+-- `elimination::row::divide` meets its contract: at column j the columns before it are done and tested. Assumes nothing.
 use mathlib.Core.Path.{refl, _∙_}
 use Prim.Native.Nat.{_≤_, _-_}
 use native.Mathlib.Omega.{arith}
 use borrow.Author.Needs.{needs}
+use Rattle.rounding.proofs.Steps.{quotient-test}
 use Rattle.elimination.specs.Places.{table32}
-use Rattle.elimination.specs.Steps.{over}
+use Rattle.elimination.specs.Steps.{over, overInRange}
+use Rattle.elimination.proofs.Flags.{Gathered, gathered-begins, gathered-turns, gathered-all}
 use Rattle.elimination.proofs.Loops.{Along, along-begins, along-due, along-turns, along-ends}
-use Rattle.elimination.proofs.RowSteps.{over-is}
+use Rattle.elimination.proofs.RowSteps.{over-is, over-test}
 use Rattle.elimination.proofs.row.divide.Statement.{statement}
 use Rattle.elimination.proofs.row.divide.Tie as tie
 
 abbrev Inv-loop : tie.InvT-loop
-Inv-loop i p r a₀ j₀ a j = (j ≤ r) × Along i 0 (over p (table32 a₀ i)) (table32 a₀) a j
+Inv-loop i p r a₀ ok₀ j₀ a ok j = (j ≤ r) × Along i 0 (over p (table32 a₀ i)) (table32 a₀) a j × Gathered (overInRange p (table32 a₀ i)) 0 j ok
 
 abbrev μ-loop : tie.MeasureT-loop
-μ-loop i p r a₀ j₀ a j = r - j
+μ-loop i p r a₀ ok₀ j₀ a ok j = r - j
 
 loop-holds : tie.Need-loop-holds Inv-loop μ-loop
-loop-holds c = (search needs, along-begins refl (c .pre .2))
+loop-holds c = (search needs, along-begins refl (c .pre .2), gathered-begins refl)
 
 get-requires : tie.Need-get-requires Inv-loop μ-loop
 get-requires c κs = search needs
+
+result-in-range-requires : tie.Need-result-in-range-requires Inv-loop μ-loop
+result-in-range-requires c κs = search needs
 
 put-requires : tie.Need-put-requires Inv-loop μ-loop
 put-requires c κs = search needs
@@ -33,14 +38,32 @@ loop-less c = search needs
 
 loop-again : tie.Need-loop-again Inv-loop μ-loop
 loop-again c =
-    let l = c .before .before .before .before .before in
-    let f = table32 (l .before .args .a .now) in
+    let tested = c .before .before in
+    let got = tested .before in
+    let l = got .before .before .before in
+    let s = l .before .args in
     let h = l .loop .inv .1 in
-    (omega arith, along-turns h (c .put .ensures) (over-is (l .loop .j) (f (l .before .args .i)) (c .before .before .get .ensures ∙ along-due h) (l .before .args .p)))
+    let j = l .loop .j in
+    let own = table32 (s .a .now) (s .i) in
+    let x = got .get .ensures ∙ along-due h in
+    (omega arith, along-turns h (c .put .ensures) (over-is j own x (s .p)), gathered-turns (l .loop .inv .2) (over-test j own x (s .p) (tested .result-in-range .ensures ∙ quotient-test (got .get .result) (s .p))))
 
 returns : tie.Need-returns Inv-loop μ-loop
-returns c = along-ends (c .before .loop .inv .1) (omega arith) (omega arith)
+returns c =
+    let l = c .before .loop in
+    record { range = gathered-all (l .inv .2) (omega arith) (omega arith); holds = along-ends (l .inv .1) (omega arith) (omega arith) }
 
 pub divide-spec : {M : Type 1} → statement M
 divide-spec =
-    tie.close (tie.spec Inv-loop μ-loop loop-holds get-requires put-requires add-j loop-less loop-again returns)
+    tie.close
+    (tie.spec
+    Inv-loop
+    μ-loop
+    loop-holds
+    get-requires
+    result-in-range-requires
+    put-requires
+    add-j
+    loop-less
+    loop-again
+    returns)

@@ -1,0 +1,49 @@
+-- The range test of a multiple of a row, added to any row, by a bound or by its products.
+use mathlib.Core.Path.{_≡_, sym, _∙_}
+use Prim.Native.Nat.{ℕ, _<_}
+use native.Mathlib.Omega.{arith}
+use mathlib.Core.Bool.{Bool, true, false, _||_}
+use lib.Dec.{T}
+use lib.Ieee.{Float, binary64, fits, lt}
+use Rattle.definitions.specs.Numbers.{_⊗_, smallest, finite, isZero, mulInRange, all}
+use Rattle.rounding.proofs.Finite.{sum-finite}
+use Rattle.elimination.specs.Steps.{plusMultiple, plusMultipleInRange, timesInRange}
+use Rattle.elimination.specs.Told.{Told, FiniteRow, Bound, Covers, Covering, Quick}
+use Rattle.elimination.proofs.Flags.{each, every}
+use Rattle.elimination.proofs.Quick.{quick-product, zero-product, product-of-step, step-of-product}
+
+-- A product that passes the quick test, one way or the other.
+quick-times : (m lo y : Float) → T (fits binary64 m) → Bound lo → Covers lo y → T (isZero m || lt smallest (m ⊗ lo)) → T (finite (m ⊗ y)) → T (mulInRange m y)
+quick-times m lo y held bound covers t f = go (isZero m) (λ z. zero-product m y z f) t
+  where
+    go : (z : Bool) → (T z → T (mulInRange m y)) → T (z || lt smallest (m ⊗ lo)) → T (mulInRange m y)
+    go true g u = g tt
+    go false g u = quick-product m lo y held bound covers u f
+
+-- m times a row added to any row, in the first c columns.
+module _ (m : Float) (own other : ℕ → Float) (c : ℕ) where
+  products-of-row : T (all (plusMultipleInRange m own other) 0 c) → T (all (timesInRange m other) 0 c)
+  unfolding plusMultipleInRange timesInRange
+  products-of-row t = every (timesInRange m other) 0 c (λ j l h. product-of-step (own j) m (other j) (each (plusMultipleInRange m own other) 0 c j t l h))
+
+  row-of-products : FiniteRow c (plusMultiple m own other) → ((j : ℕ) → j < c → T (finite (m ⊗ other j)) → T (mulInRange m (other j))) → T (all (plusMultipleInRange m own other) 0 c)
+  unfolding plusMultipleInRange plusMultiple
+  row-of-products f g =
+      every (plusMultipleInRange m own other) 0 c (λ j l h.
+      let n : j < c = omega arith in
+      step-of-product (own j) m (other j) (g j n (sum-finite (own j) (m ⊗ other j) (f j n) .1)) (f j n))
+
+  pub by-products : {ok : Bool} → ok ≡ all (timesInRange m other) 0 c → Told ok (all (plusMultipleInRange m own other) 0 c) (FiniteRow c (plusMultiple m own other))
+  unfolding timesInRange
+  by-products e =
+      record {
+        passes = λ t. rw e (products-of-row t);
+        tells = λ f t. row-of-products f (λ j l h. each (timesInRange m other) 0 c j (rw e at t) (omega arith) (omega arith));
+      }
+
+  pub by-bound : {lo : Float} {ok : Bool} → Quick m lo ok → ok ≡ true → Covering lo other 0 c → Told true (all (plusMultipleInRange m own other) 0 c) (FiniteRow c (plusMultiple m own other))
+  by-bound {lo} q e d =
+      record {
+        passes = λ _. tt;
+        tells = λ f _. row-of-products f (λ j l. quick-times m lo (other j) (q .held) (d .bound) (d .covers j (omega arith) l) (rw (sym (q .is) ∙ e) tt));
+      }

@@ -1,0 +1,149 @@
+-- The quick range test: where the product with the bound is above 2^-1022, so are the products with the numbers that it bounds. And what a zero makes of a step.
+use mathlib.Core.Path.{_≡_, refl, sym, _∙_}
+use mathlib.Core.Logic.{inl, inr}
+use Prim.Native.Nat.{ℕ, zero, suc, _+_, _*_, _^_, _<_}
+use native.Mathlib.Nat.{le-refl, eq-zero-or-pos, eq-of-mul-eq-mul-right, zero-mul, mul-pos, zero-lt-suc}
+use native.Mathlib.Omega.{arith}
+use mathlib.Core.Bool.{Bool, true, false, _||_, cond, Bool·beq}
+use lib.Dec.{T, eqb, ltb, eqb→eq, eqb·suc-zero}
+use lib.Pow.{pow-pos}
+use lib.IntN.{ℤ, pos}
+use lib.Ieee.{Float, nan, inf, fin, Format, binary64, prec, low, emax, up, down, unlike, odd, round, mul, div, lt, eq, fits}
+use lib.Ieee.Exact.{HasValue, round-exact}
+use lib.Ieee.Fits.{round-is, eq→eqb, up-pos, down-pos}
+use lib.Ieee.Order.{kept, drop}
+use lib.Ieee as Ieee
+use Rattle.definitions.specs.Numbers.{_⊕_, _⊗_, _⊘_, smallest, finite, isZero, addInRange, mulInRange, addProductInRange, units}
+use Rattle.rounding.specs.Good.{Good}
+use Rattle.rounding.proofs.Value.{by-parts}
+use Rattle.rounding.proofs.Laws.{unique-units, zero-is-good, units-zero}
+use Rattle.rounding.proofs.Finite.{product-finite}
+use Rattle.rounding.proofs.Zeros.{times-zero}
+use Rattle.rounding.proofs.Range.{product-in-range, factor-above}
+use Rattle.elimination.specs.Told.{Bound, Covers}
+use Rattle.elimination.proofs.Flags.{both, both-left, both-right}
+
+-- ---- the two steps of x + m·y
+module _ (x m y : Float) where
+  pub product-of-step : T (addProductInRange x m y) → T (mulInRange m y)
+  unfolding addProductInRange
+  product-of-step t = both-left (mulInRange m y) (addInRange x (m ⊗ y)) t
+
+  pub step-finite : T (addProductInRange x m y) → T (finite (x ⊕ m ⊗ y))
+  unfolding addProductInRange addInRange
+  step-finite t = both-right (mulInRange m y) (finite (x ⊕ m ⊗ y)) t
+
+  pub step-of-product : T (mulInRange m y) → T (finite (x ⊕ m ⊗ y)) → T (addProductInRange x m y)
+  unfolding addProductInRange addInRange
+  step-of-product t u = both (mulInRange m y) (finite (x ⊕ m ⊗ y)) t u
+
+-- ---- a factor that is zero
+or-left : (a b : Bool) → T a → T (a || b)
+or-left true b t = tt
+or-left false b t = absurd t
+
+or-right : (a b : Bool) → T b → T (a || b)
+or-right true b t = tt
+or-right false b t = t
+
+module _ (m y : Float) where
+  zero-in-range : T (isZero m || isZero y) → T (finite (m ⊗ y)) → T (mulInRange m y)
+  unfolding mulInRange
+  zero-in-range z t = both (finite (m ⊗ y)) (isZero m || isZero y || lt smallest (m ⊗ y)) t (or-left (isZero m || isZero y) (lt smallest (m ⊗ y)) z)
+
+  pub zero-product : T (isZero m) → T (finite (m ⊗ y)) → T (mulInRange m y)
+  zero-product z t = zero-in-range (or-left (isZero m) (isZero y) z) t
+
+-- ---- a negative number is not above 2^-1022
+odd-below : (d q k l : ℕ) → T (lt smallest (odd d true q k l)) → ⊥
+unfolding odd lt
+odd-below d zero k l t = t
+odd-below d (suc q) k l t = t
+
+units-below : (f : Format) (q k : ℕ) → T (lt smallest (Ieee.units f true q k)) → ⊥
+unfolding Ieee.units lt
+units-below f q k = neither (ltb (q * 2 ^ k) (2 ^ (low f + suc (emax f))))
+  where
+    neither : (b : Bool) → T (lt smallest (cond b (odd (suc (prec f)) true q k (low f)) (inf true))) → ⊥
+    neither true t = odd-below (suc (prec f)) q k (low f) t
+    neither false t = t
+
+round-below : (f : Format) (a c : ℕ) → T (lt smallest (round f true a c)) → ⊥
+round-below f a c = rw round-is (units-below f (kept (prec f) (a * 2 ^ low f) c) (drop (prec f) (a * 2 ^ low f) c))
+
+minus-below : (n : ℕ) (e : ℤ) (y : Float) → Good y → T (lt smallest (fin true n e ⊗ y)) → ⊥
+unfolding mul
+minus-below n e = by-parts binary64 (λ y. T (lt smallest (fin true n e ⊗ y)) → ⊥) (λ k d g. round-below binary64 (n * up e * (k * up d)) (down e * down d))
+
+-- So a multiplier that passes the quick test is good, and the bound is not zero.
+multiplier-good : (m lo : Float) → T (fits binary64 m) → T (finite m) → Good lo → T (lt smallest (m ⊗ lo)) → Good m
+unfolding finite
+multiplier-good nan lo f t g a = absurd t
+multiplier-good (inf s) lo f t g a = absurd t
+multiplier-good (fin true n e) lo f t g a = absurd (minus-below n e lo g a)
+multiplier-good (fin false n e) lo f t g a = record { plus = tt; held = f }
+
+bound-positive : {m lo : Float} → Good m → Good lo → T (lt smallest (m ⊗ lo)) → 0 < units lo
+unfolding lt
+bound-positive {m} {lo} g h a = elim (eq-zero-or-pos (units lo)) [
+  | inl z ↦ absurd (rw (unique-units h zero-is-good (z ∙ sym units-zero), times-zero g) at a)
+  | inr p ↦ p
+]
+
+-- ---- the quick test
+pub quick-multiplier : (m lo : Float) → T (fits binary64 m) → T (finite m) → Bound lo → T (lt smallest (m ⊗ lo)) → T (lt smallest m)
+quick-multiplier m lo f t b a = factor-above (multiplier-good m lo f t (b .good) a) (b .good) (b .small) a
+
+pub quick-product : (m lo y : Float) → T (fits binary64 m) → Bound lo → Covers lo y → T (lt smallest (m ⊗ lo)) → T (finite (m ⊗ y)) → T (mulInRange m y)
+quick-product m lo y f b c a t =
+    let g : Good m = multiplier-good m lo f (product-finite m y t .0) (b .good) a in
+    elim (c (bound-positive g (b .good) a) (product-finite m y t .1)) [
+      | inl z ↦ zero-in-range m y (or-right (isZero m) (isZero y) z) t
+      | inr h ↦ product-in-range g g (b .good) (h .0) (le-refl (units m)) (h .1) a t
+    ]
+
+-- ---- a dividend that is zero
+module _ (s : Bool) (n : ℕ) (e : ℤ) where
+  zero-amount : T (isZero (fin s n e)) → n * up e ≡ 0
+  unfolding isZero eq
+  zero-amount t =
+      let h = eqb→eq (n * up e * 1) (0 * 1 * down e) (both-left (eqb (n * up e * 1) (0 * 1 * down e)) (Bool·beq s false || eqb (n * up e * 1) 0) t) in
+      omega arith
+
+  amount-zero : n * up e ≡ 0 → T (isZero (fin s n e))
+  unfolding isZero eq
+  amount-zero z =
+      let p : n * up e * 1 ≡ 0 * 1 * down e = omega arith in
+      let q : n * up e * 1 ≡ 0 = omega arith in
+      both (eqb (n * up e * 1) (0 * 1 * down e)) (Bool·beq s false || eqb (n * up e * 1) 0) (eq→eqb p) (or-right (Bool·beq s false) (eqb (n * up e * 1) 0) (eq→eqb q))
+
+round-zero : (s : Bool) (c : ℕ) → 0 < c → T (isZero (round binary64 s 0 c))
+round-zero s c C = from (round binary64 s 0 c) (round-exact binary64 s 0 c 0 0 C (pow-pos (prec binary64)) (pow-pos (low binary64 + suc (emax binary64))) (zero-mul (2 ^ low binary64) ∙ sym (zero-mul c)))
+  where
+    from : (x : Float) → HasValue x s 0 c → T (isZero x)
+    from nan v = absurd v
+    from (inf r) v = absurd v
+    from (fin r n e) v = amount-zero r n e (eq-of-mul-eq-mul-right c C (n * up e) 0 (v .1 ∙ zero-mul (down e) ∙ sym (zero-mul c)))
+
+-- A divisor that is zero gives no finite quotient.
+over-number : (k : ℕ) (x y : Float) → (T (finite x) → ⊥) → (0 < k → T (isZero y)) → T (finite (cond (eqb k 0) x y)) → T (isZero (cond (eqb k 0) x y))
+over-number zero x y p q t = absurd (p t)
+over-number (suc k) x y p q t = rw (eqb·suc-zero k) (q (zero-lt-suc k))
+
+pub zero-quotient : (x p : Float) → T (isZero x) → T (finite (x ⊘ p)) → T (isZero (x ⊘ p))
+unfolding div finite
+zero-quotient nan p z t = absurd t
+zero-quotient (inf s) nan z t = absurd t
+zero-quotient (inf s) (inf r) z t = absurd t
+zero-quotient (inf s) (fin r k d) z t = absurd t
+zero-quotient (fin s n e) nan z t = absurd t
+zero-quotient (fin s n e) (inf r) z t = amount-zero (unlike s r) 0 (pos 0) refl
+zero-quotient (fin s n e) (fin r k d) z t =
+    over-number k (cond (eqb n 0) nan (inf (unlike s r))) (round binary64 (unlike s r) (n * up e * down d) (k * up d * down e))
+    (λ u. neither (eqb n 0) u)
+    (λ K. rw (zero-amount s n e z, zero-mul (down d)) (round-zero (unlike s r) (k * up d * down e) (mul-pos (mul-pos K (up-pos d)) (down-pos e))))
+    t
+  where
+    neither : (b : Bool) → T (finite (cond b nan (inf (unlike s r)))) → ⊥
+    neither true u = u
+    neither false u = u

@@ -1,0 +1,40 @@
+-- `elimination::least::least_of_few` meets its contract: at column j the numbers before it are bounded. Assumes nothing.
+use Prim.Native.Nat.{_≤_, _-_}
+use native.Mathlib.Omega.{arith}
+use borrow.Author.Needs.{needs}
+use Rattle.elimination.specs.Places.{table32}
+use Rattle.elimination.specs.Told.{Least}
+use Rattle.elimination.proofs.Bounds.{least-begins, least-turns, least-ends}
+use Rattle.elimination.proofs.least.least_of_few.Statement.{statement}
+use Rattle.elimination.proofs.least.least_of_few.Tie as tie
+
+abbrev Inv-loop : tie.InvT-loop
+Inv-loop lo k from to a least₀ j₀ least j = (j ≤ to) × Least lo (table32 a k) from j least
+
+abbrev μ-loop : tie.MeasureT-loop
+μ-loop lo k from to a least₀ j₀ least j = to - j
+
+loop-holds : tie.Need-loop-holds Inv-loop μ-loop
+loop-holds c = (search needs, least-begins (c .pre .4))
+
+get-requires : tie.Need-get-requires Inv-loop μ-loop
+get-requires c κs = search needs
+
+lower-requires : tie.Need-lower-requires Inv-loop μ-loop
+lower-requires c κs = c .before .before .loop .inv .1 .covering .bound
+
+add-j : tie.Need-add-j Inv-loop μ-loop
+add-j c = search needs
+
+loop-less : tie.Need-loop-less Inv-loop μ-loop
+loop-less c = search needs
+
+loop-again : tie.Need-loop-again Inv-loop μ-loop
+loop-again c = (omega arith, least-turns (c .before .before .before .loop .inv .1) (c .before .get .ensures) (c .lower .ensures))
+
+returns : tie.Need-returns Inv-loop μ-loop
+returns c = least-ends (c .before .loop .inv .1) (omega arith) (omega arith)
+
+pub least-of-few-spec : {M : Type 1} → statement M
+least-of-few-spec =
+    tie.close (tie.spec Inv-loop μ-loop loop-holds get-requires lower-requires add-j loop-less loop-again returns)

@@ -1,0 +1,60 @@
+-- `elimination::range::climb_products` meets its contract: at column k the multipliers before it are tested. Assumes nothing.
+use Prim.Native.Nat.{_≤_, _-_, suc}
+use native.Mathlib.Numerals.{add-one}
+use native.Mathlib.Omega.{arith}
+use borrow.Author.Needs.{needs}
+use Rattle.elimination.specs.Places.{table32}
+use Rattle.elimination.specs.Told.{productsAt}
+use Rattle.elimination.proofs.Flags.{Gathered, gathered-begins, gathered-turns, gathered-ends}
+use Rattle.elimination.proofs.UpwardLaws.{products-at}
+use Rattle.elimination.proofs.range.climb_products.Statement.{statement}
+use Rattle.elimination.proofs.range.climb_products.Tie as tie
+
+abbrev Inv-loop : tie.InvT-loop
+Inv-loop r i t b ok₀ k₀ ok k = (k ≤ r) × Gathered (productsAt r (table32 t i) (table32 b)) (suc i) k ok
+
+abbrev μ-loop : tie.MeasureT-loop
+μ-loop r i t b ok₀ k₀ ok k = r - k
+
+add-k : tie.Need-add-k Inv-loop μ-loop
+add-k c = search needs
+
+loop-holds : tie.Need-loop-holds Inv-loop μ-loop
+loop-holds c = (search needs, gathered-begins (add-one (c .args .i)))
+
+get-requires : tie.Need-get-requires Inv-loop μ-loop
+get-requires c κs = search needs
+
+products-in-range-requires : tie.Need-products-in-range-requires Inv-loop μ-loop
+products-in-range-requires c κs = search needs
+
+add-k-2 : tie.Need-add-k-2 Inv-loop μ-loop
+add-k-2 c = search needs
+
+loop-less : tie.Need-loop-less Inv-loop μ-loop
+loop-less c = search needs
+
+loop-again : tie.Need-loop-again Inv-loop μ-loop
+loop-again c =
+    let m = c .before in
+    let l = m .before .before in
+    let s = l .before .args in
+    (omega arith, gathered-turns (l .loop .inv .1) (products-at (s .r) (table32 (s .t .now) (s .i)) (table32 (s .b .now)) (l .loop .k) (m .get .ensures) (c .products-in-range .ensures)))
+
+returns : tie.Need-returns Inv-loop μ-loop
+returns c = gathered-ends (c .before .loop .inv .1) (omega arith) (omega arith)
+
+pub climb-products-spec : {M : Type 1} → statement M
+climb-products-spec =
+    tie.close
+    (tie.spec
+    Inv-loop
+    μ-loop
+    add-k
+    loop-holds
+    get-requires
+    products-in-range-requires
+    add-k-2
+    loop-less
+    loop-again
+    returns)

@@ -1,0 +1,55 @@
+-- `elimination::range::products_in_range` meets its contract: at column j the columns from lo before it are tested. Assumes nothing.
+use mathlib.Core.Path.{refl}
+use Prim.Native.Nat.{_≤_, _-_}
+use native.Mathlib.Omega.{arith}
+use borrow.Author.Needs.{needs}
+use Rattle.elimination.specs.Places.{table32}
+use Rattle.elimination.specs.Steps.{timesInRange}
+use Rattle.elimination.proofs.Flags.{Gathered, gathered-begins, gathered-turns, gathered-ends}
+use Rattle.elimination.proofs.RowSteps.{times-test}
+use Rattle.elimination.proofs.range.products_in_range.Statement.{statement}
+use Rattle.elimination.proofs.range.products_in_range.Tie as tie
+
+abbrev Inv-loop : tie.InvT-loop
+Inv-loop k m lo hi a ok₀ j₀ ok j = (j ≤ hi) × Gathered (timesInRange m (table32 a k)) lo j ok
+
+abbrev μ-loop : tie.MeasureT-loop
+μ-loop k m lo hi a ok₀ j₀ ok j = hi - j
+
+loop-holds : tie.Need-loop-holds Inv-loop μ-loop
+loop-holds c = (search needs, gathered-begins refl)
+
+get-requires : tie.Need-get-requires Inv-loop μ-loop
+get-requires c κs = search needs
+
+mul-in-range-requires : tie.Need-mul-in-range-requires Inv-loop μ-loop
+mul-in-range-requires c κs = search needs
+
+add-j : tie.Need-add-j Inv-loop μ-loop
+add-j c = search needs
+
+loop-less : tie.Need-loop-less Inv-loop μ-loop
+loop-less c = search needs
+
+loop-again : tie.Need-loop-again Inv-loop μ-loop
+loop-again c =
+    let l = c .before .before .before in
+    let s = l .before .args in
+    (omega arith, gathered-turns (l .loop .inv .1) (times-test (l .loop .j) (table32 (s .a .now) (s .k)) (c .before .get .ensures) (s .m) (c .mul-in-range .ensures)))
+
+returns : tie.Need-returns Inv-loop μ-loop
+returns c = gathered-ends (c .before .loop .inv .1) (omega arith) (omega arith)
+
+pub products-in-range-spec : {M : Type 1} → statement M
+products-in-range-spec =
+    tie.close
+    (tie.spec
+    Inv-loop
+    μ-loop
+    loop-holds
+    get-requires
+    mul-in-range-requires
+    add-j
+    loop-less
+    loop-again
+    returns)

@@ -1,0 +1,192 @@
+-- `elimination::upward::climb_four` meets its contract: after q turns the four numbers have q stages. Assumes nothing.
+use mathlib.Core.Path.{refl}
+use Prim.Native.Nat.{_+_, _≤_, _-_, suc}
+use native.Mathlib.Omega.{arith}
+use borrow.Author.Needs.{needs}
+use Rattle.elimination.specs.Places.{table32}
+use Rattle.elimination.proofs.Loops.{along-begins, along-turns, along-next}
+use Rattle.elimination.proofs.UpwardLaws.{Climbs, climb-begins, climb-turns, climb-ends}
+use Rattle.elimination.proofs.upward.climb_four.Statement.{statement}
+use Rattle.elimination.proofs.upward.climb_four.Tie as tie
+
+abbrev Inv-loop : tie.InvT-loop
+Inv-loop r i j t b a0₀ a1₀ a2₀ a3₀ q₀ q-end a0 a1 a2 a3 q =
+    (q ≤ r - suc i)
+    × Climbs r (table32 t) (table32 b) i q j a0
+    × Climbs r (table32 t) (table32 b) i q (j + 1) a1
+    × Climbs r (table32 t) (table32 b) i q (j + 2) a2
+    × Climbs r (table32 t) (table32 b) i q (j + 3) a3
+
+abbrev μ-loop : tie.MeasureT-loop
+μ-loop r i j t b a0₀ a1₀ a2₀ a3₀ q₀ q-end a0 a1 a2 a3 q = q-end - q
+
+get-requires : tie.Need-get-requires Inv-loop μ-loop
+get-requires c κs = search needs
+
+add-get : tie.Need-add-get Inv-loop μ-loop
+add-get c = search needs
+
+get-requires-2 : tie.Need-get-requires-2 Inv-loop μ-loop
+get-requires-2 c κs = search needs
+
+add-get-2 : tie.Need-add-get-2 Inv-loop μ-loop
+add-get-2 c = search needs
+
+get-requires-3 : tie.Need-get-requires-3 Inv-loop μ-loop
+get-requires-3 c κs = search needs
+
+add-get-3 : tie.Need-add-get-3 Inv-loop μ-loop
+add-get-3 c = search needs
+
+get-requires-4 : tie.Need-get-requires-4 Inv-loop μ-loop
+get-requires-4 c κs = search needs
+
+sub-q-end : tie.Need-sub-q-end Inv-loop μ-loop
+sub-q-end c = search needs
+
+sub-q-end-2 : tie.Need-sub-q-end-2 Inv-loop μ-loop
+sub-q-end-2 c = search needs
+
+loop-holds : tie.Need-loop-holds Inv-loop μ-loop
+loop-holds c =
+    let a3 = c .before .before in
+    let a2 = a3 .before .before in
+    let a1 = a2 .before .before in (
+      search needs,
+      climb-begins (a1 .get .ensures),
+      climb-begins (a2 .get2 .ensures),
+      climb-begins (a3 .get3 .ensures),
+      climb-begins (c .get4 .ensures),
+    )
+
+sub-k : tie.Need-sub-k Inv-loop μ-loop
+sub-k c = search needs
+
+sub-k-2 : tie.Need-sub-k-2 Inv-loop μ-loop
+sub-k-2 c = search needs
+
+get-requires-5 : tie.Need-get-requires-5 Inv-loop μ-loop
+get-requires-5 c κs = search needs
+
+get-requires-6 : tie.Need-get-requires-6 Inv-loop μ-loop
+get-requires-6 c κs = search needs
+
+add-get-4 : tie.Need-add-get-4 Inv-loop μ-loop
+add-get-4 c = search needs
+
+get-requires-7 : tie.Need-get-requires-7 Inv-loop μ-loop
+get-requires-7 c κs = search needs
+
+add-get-5 : tie.Need-add-get-5 Inv-loop μ-loop
+add-get-5 c = search needs
+
+get-requires-8 : tie.Need-get-requires-8 Inv-loop μ-loop
+get-requires-8 c κs = search needs
+
+add-get-6 : tie.Need-add-get-6 Inv-loop μ-loop
+add-get-6 c = search needs
+
+get-requires-9 : tie.Need-get-requires-9 Inv-loop μ-loop
+get-requires-9 c κs = search needs
+
+add-q : tie.Need-add-q Inv-loop μ-loop
+add-q c = search needs
+
+loop-less : tie.Need-loop-less Inv-loop μ-loop
+loop-less c = search needs
+
+loop-again : tie.Need-loop-again Inv-loop μ-loop
+loop-again c =
+    let a3 = c .before .before in
+    let a2 = a3 .before .before in
+    let a1 = a2 .before .before in
+    let first = a1 .before .before in
+    let m = first .get5 .ensures in
+    let l = first .before .before in
+    let v = l .loop .inv in (
+      omega (arith, first .before .loop-test .taken),
+      climb-turns (v .1) m (a1 .get6 .ensures),
+      climb-turns (v .2) m (a2 .get7 .ensures),
+      climb-turns (v .3) m (a3 .get8 .ensures),
+      climb-turns (v .4) m (c .get9 .ensures),
+    )
+
+put-requires : tie.Need-put-requires Inv-loop μ-loop
+put-requires c κs = search needs
+
+add-put : tie.Need-add-put Inv-loop μ-loop
+add-put c = search needs
+
+put-requires-2 : tie.Need-put-requires-2 Inv-loop μ-loop
+put-requires-2 c κs = search needs
+
+add-put-2 : tie.Need-add-put-2 Inv-loop μ-loop
+add-put-2 c = search needs
+
+put-requires-3 : tie.Need-put-requires-3 Inv-loop μ-loop
+put-requires-3 c κs = search needs
+
+add-put-3 : tie.Need-add-put-3 Inv-loop μ-loop
+add-put-3 c = search needs
+
+put-requires-4 : tie.Need-put-requires-4 Inv-loop μ-loop
+put-requires-4 c κs = search needs
+
+returns : tie.Need-returns Inv-loop μ-loop
+returns c =
+    let b3 = c .before .before in
+    let b2 = b3 .before .before in
+    let b1 = b2 .before .before in
+    let end = b1 .before .before in
+    let l = end .before in
+    let s = l .before .before .before .before .before .before .before .before .before in
+    let v = l .loop .inv in
+    let low = v .0 in
+    let high : s .args .r - suc (s .args .i) ≤ l .loop .q = omega (arith, end .loop-test .left) in
+    (along-next 3
+    (along-next 2
+    (along-next 1
+    (along-turns
+    (along-begins refl (s .pre .4))
+    (b1 .put .ensures) (climb-ends (v .1) low high))
+    (b2 .put2 .ensures) (climb-ends (v .2) low high))
+    (b3 .put3 .ensures) (climb-ends (v .3) low high))
+    (c .put4 .ensures) (climb-ends (v .4) low high)) .holds
+
+pub climb-four-spec : {M : Type 1} → statement M
+climb-four-spec =
+    tie.close
+    (tie.spec
+    Inv-loop
+    μ-loop
+    get-requires
+    add-get
+    get-requires-2
+    add-get-2
+    get-requires-3
+    add-get-3
+    get-requires-4
+    sub-q-end
+    sub-q-end-2
+    loop-holds
+    sub-k
+    sub-k-2
+    get-requires-5
+    get-requires-6
+    add-get-4
+    get-requires-7
+    add-get-5
+    get-requires-8
+    add-get-6
+    get-requires-9
+    add-q
+    loop-less
+    loop-again
+    put-requires
+    add-put
+    put-requires-2
+    add-put-2
+    put-requires-3
+    add-put-3
+    put-requires-4
+    returns)

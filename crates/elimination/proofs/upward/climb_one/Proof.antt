@@ -1,0 +1,78 @@
+-- `elimination::upward::climb_one` meets its contract: after q turns the number has q stages. Assumes nothing.
+use mathlib.Core.Path.{refl}
+use Prim.Native.Nat.{_≤_, _-_, suc}
+use native.Mathlib.Omega.{arith}
+use borrow.Author.Needs.{needs}
+use Rattle.elimination.specs.Places.{table32}
+use Rattle.elimination.proofs.Loops.{along-begins, along-turns}
+use Rattle.elimination.proofs.UpwardLaws.{Climbs, climb-begins, climb-turns, climb-ends}
+use Rattle.elimination.proofs.upward.climb_one.Statement.{statement}
+use Rattle.elimination.proofs.upward.climb_one.Tie as tie
+
+abbrev Inv-loop : tie.InvT-loop
+Inv-loop r i j t b a0₀ q₀ q-end a0 q = (q ≤ r - suc i) × Climbs r (table32 t) (table32 b) i q j a0
+
+abbrev μ-loop : tie.MeasureT-loop
+μ-loop r i j t b a0₀ q₀ q-end a0 q = q-end - q
+
+get-requires : tie.Need-get-requires Inv-loop μ-loop
+get-requires c κs = search needs
+
+sub-q-end : tie.Need-sub-q-end Inv-loop μ-loop
+sub-q-end c = search needs
+
+sub-q-end-2 : tie.Need-sub-q-end-2 Inv-loop μ-loop
+sub-q-end-2 c = search needs
+
+loop-holds : tie.Need-loop-holds Inv-loop μ-loop
+loop-holds c = (search needs, climb-begins (c .get .ensures))
+
+sub-k : tie.Need-sub-k Inv-loop μ-loop
+sub-k c = search needs
+
+sub-k-2 : tie.Need-sub-k-2 Inv-loop μ-loop
+sub-k-2 c = search needs
+
+get-requires-2 : tie.Need-get-requires-2 Inv-loop μ-loop
+get-requires-2 c κs = search needs
+
+get-requires-3 : tie.Need-get-requires-3 Inv-loop μ-loop
+get-requires-3 c κs = search needs
+
+add-q : tie.Need-add-q Inv-loop μ-loop
+add-q c = search needs
+
+loop-less : tie.Need-loop-less Inv-loop μ-loop
+loop-less c = search needs
+
+loop-again : tie.Need-loop-again Inv-loop μ-loop
+loop-again c = (omega arith, climb-turns (c .before .before .before .before .loop .inv .1) (c .before .before .get2 .ensures) (c .get3 .ensures))
+
+put-requires : tie.Need-put-requires Inv-loop μ-loop
+put-requires c κs = search needs
+
+returns : tie.Need-returns Inv-loop μ-loop
+returns c =
+    let l = c .before .before .before in
+    let s = l .before .before .before in
+    along-turns (along-begins refl (s .pre .4)) (c .put .ensures) (climb-ends (l .loop .inv .1) (l .loop .inv .0) (omega arith)) .holds
+
+pub climb-one-spec : {M : Type 1} → statement M
+climb-one-spec =
+    tie.close
+    (tie.spec
+    Inv-loop
+    μ-loop
+    get-requires
+    sub-q-end
+    sub-q-end-2
+    loop-holds
+    sub-k
+    sub-k-2
+    get-requires-2
+    get-requires-3
+    add-q
+    loop-less
+    loop-again
+    put-requires
+    returns)

@@ -1,0 +1,70 @@
+-- `sheet::exits` meets its contract. Assumes nothing.
+use mathlib.Core.Logic.{⊎-elim}
+use mathlib.Core.Path.{sym, ap, _∙_}
+use mathlib.Core.Bool.{false}
+use Prim.Native.Nat.{_≤_, _-_, zero-le}
+use native.Mathlib.Omega.{arith}
+use borrow.Author.Needs.{needs}
+use Rattle.definitions.specs.Questions.{leaves}
+use Rattle.sheet.specs.Marks.{Marked}
+use Rattle.sheet.proofs.Bools.{contrary}
+use Rattle.sheet.proofs.Stages.{before, none-marked, first-stage, last-stage, marked-few, at-stage, leave-stage, mark-stage}
+use Rattle.sheet.proofs.exits.Statement.{statement}
+use Rattle.sheet.proofs.exits.Tie as tie
+
+abbrev Inv-loop : tie.InvT-loop
+Inv-loop sheet n next₀ i₀ next i = (i ≤ n) × Marked (before (λ k. false) (leaves n sheet) i) n next
+
+abbrev μ-loop : tie.MeasureT-loop
+μ-loop sheet n next₀ i₀ next i = n - i
+
+no-marks-requires : tie.Need-no-marks-requires Inv-loop μ-loop
+no-marks-requires c κs = search needs
+
+loop-holds : tie.Need-loop-holds Inv-loop μ-loop
+loop-holds c = (zero-le, first-stage _ _ (none-marked (c .before .before .pre .few) (c .no-marks .ensures)))
+
+has-exit-requires : tie.Need-has-exit-requires Inv-loop μ-loop
+has-exit-requires c κs = search needs
+
+element-write-next : tie.Need-element-write-next Inv-loop μ-loop
+element-write-next c = omega arith
+
+add-next : tie.Need-add-next Inv-loop μ-loop
+add-next c = omega (arith, marked-few (c .before .before .before .loop .inv .1))
+
+add-i : tie.Need-add-i Inv-loop μ-loop
+add-i c = omega arith
+
+loop-less : tie.Need-loop-less Inv-loop μ-loop
+loop-less c = omega arith
+
+loop-again : tie.Need-loop-again Inv-loop μ-loop
+loop-again c =
+    let at = c .before .before .before in
+    let l = c .before .before .loop-test .taken in (
+      omega arith,
+      ⊎-elim
+          (λ w. mark-stage _ _ (at .loop .inv .1) l (omega arith) (at-stage _ _ (at .loop .inv .1) l) (sym (c .before .has-exit .ensures) ∙ w .0 .taken) (ap (λ m. m .marked) (w .1)) (ap (λ m. m .count) (w .1)))
+          (λ w. rw (w .1) (leave-stage _ _ (at .loop .inv .1) l (λ t. absurd (contrary _ t (sym (c .before .has-exit .ensures) ∙ w .0 .left)))))
+          (c .if1 .came),
+    )
+
+returns : tie.Need-returns Inv-loop μ-loop
+returns c = last-stage _ _ (c .before .loop .inv .0) (c .loop-test .left) (c .before .loop .inv .1)
+
+pub exits-spec : {M : Type 1} → statement M
+exits-spec =
+    tie.close
+    (tie.spec
+    Inv-loop
+    μ-loop
+    no-marks-requires
+    loop-holds
+    has-exit-requires
+    element-write-next
+    add-next
+    add-i
+    loop-less
+    loop-again
+    returns)
