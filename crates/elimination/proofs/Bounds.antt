@@ -5,11 +5,12 @@ use Prim.Native.Nat.{ℕ, _+_, _≤_, _<_}
 use native.Mathlib.Nat.{le-refl, le-trans, le-of-lt, le-of-eq, le-antisymm, lt-irrefl, lt-of-lt-of-le}
 use native.Mathlib.Omega.{arith}
 use mathlib.Core.Bool.{Bool, true, false, not, cond}
-use lib.Dec.{T, ltb, ltb→lt, nltb→le}
-use lib.Ieee.{Float, nan, inf, fin, binary64, fits, lt}
+use lib.Dec.{T, ltb, ltb→lt, nltb→le, eqb→eq, leb·suc-zero}
+use lib.Ieee.{Float, nan, inf, fin, binary64, fits, lt, eq}
 use Rattle.definitions.specs.Numbers.{0·0, 1·0, finite, isZero, units}
 use Rattle.rounding.specs.Good.{Good}
-use Rattle.rounding.proofs.Laws.{zero-is-good, units-zero, one-is-good, units-one}
+use Rattle.rounding.proofs.Value.{by-parts}
+use Rattle.rounding.proofs.Laws.{zero-is-good, units-zero, one-is-good, units-one, is-zero}
 use Rattle.rounding.proofs.Order.{lt-units}
 use Rattle.elimination.specs.Told.{Bound, Covers, Covering, Lowered, Least}
 use Rattle.elimination.proofs.Cases.{by-equal, by-order}
@@ -26,51 +27,71 @@ covering-less {lo} {lo'} {f} b l h = record { bound = b; covers = λ j m n. cove
 
 -- ---- the smaller of two
 pub record Smaller (x y r : Float) : Type 0 where
-  pub bound : Bound r
+  pub good : Good r
   pub first : units r ≤ units x
   pub second : units r ≤ units y
 
-pub smaller-is : {x y r : Float} → r ≡ cond (lt x y) x y → Good x → Bound y → Smaller x y r
-smaller-is {x} {y} e g b = rw (e, lt-units g (b .good)) (pick (ltb (units x) (units y)) (ltb→lt (units x) (units y)) (nltb→le (units x) (units y)))
+pub smaller-is : {x y r : Float} → r ≡ cond (lt x y) x y → Good x → Good y → Smaller x y r
+smaller-is {x} {y} e g h = rw (e, lt-units g h) (pick (ltb (units x) (units y)) (ltb→lt (units x) (units y)) (nltb→le (units x) (units y)))
   where
     pick : (t : Bool) → (T t → units x < units y) → (T (not t) → units y ≤ units x) → Smaller x y (cond t x y)
-    pick true l m = record { bound = record { good = g; small = le-trans (le-of-lt (l tt)) (b .small) }; first = le-refl (units x); second = le-of-lt (l tt) }
-    pick false l m = record { bound = b; first = m tt; second = le-refl (units y) }
+    pick true l m = record { good = g; first = le-refl (units x); second = le-of-lt (l tt) }
+    pick false l m = record { good = h; first = m tt; second = le-refl (units y) }
 
--- ---- a bound made lower for x: a zero asks nothing,
-pub lowered-zero : {lo : Float} (x : Float) → Bound lo → T (isZero x) → Lowered lo x lo
-lowered-zero {lo} x b z = record { bound = b; less = le-refl (units lo); covers = λ n t. inl z }
+pub smaller-bound : {x y r : Float} → Smaller x y r → Bound x → Bound r
+smaller-bound s b = record { good = s .good; small = le-trans (s .first) (b .small) }
 
--- a good number is bounded by the smaller of both,
-lowered-good : {lo x r : Float} → Bound lo → Good x → r ≡ cond (lt x lo) x lo → Lowered lo x r
-lowered-good b g e = let s = smaller-is e g b in record { bound = s .bound; less = s .second; covers = λ n t. inr (g, s .first) }
+-- ---- a bound made lower for x: r is the smaller of the bound before and w, which is one where x is zero,
+module _ {lo r : Float} (b : Bound lo) where
+  lowered-by : {w : Float} (x : Float) → Good w → r ≡ cond (lt lo w) lo w → (units r ≤ units w → Covers r x) → Lowered lo x r
+  lowered-by x g e k = let s = smaller-is e (b .good) g in record { bound = smaller-bound s b; less = s .first; covers = k (s .second) }
 
--- and for a number that is not positive the bound becomes zero.
-lowered-other : {lo r : Float} (x : Float) → Bound lo → r ≡ cond (lt 0·0 lo) 0·0 lo → Lowered lo x r
-lowered-other x b e =
-    let s = smaller-is e zero-is-good b in
-    record { bound = s .bound; less = s .second; covers = λ n t. absurd (lt-irrefl 0 (lt-of-lt-of-le n (rw units-zero at (s .first)))) }
+  lowered-zero : (x : Float) → T (isZero x) → r ≡ cond (lt lo 1·0) lo 1·0 → Lowered lo x r
+  lowered-zero x z e = lowered-by x one-is-good e (λ l n t. inl z)
 
--- Nothing is above infinity.
-none-above : (y : Float) → lt (inf false) y ≡ false
+  -- x itself where it is a good number,
+  lowered-good : {x : Float} → Good x → r ≡ cond (lt lo x) lo x → Lowered lo x r
+  lowered-good {x} g e = lowered-by x g e (λ l n t. inr (g, l))
+
+  -- and zero where it is not positive.
+  lowered-other : (x : Float) → r ≡ cond (lt lo 0·0) lo 0·0 → Lowered lo x r
+  lowered-other x e = lowered-by x zero-is-good e (λ l n t. absurd (lt-irrefl 0 (lt-of-lt-of-le n (rw units-zero at l))))
+
+-- Every good number is below infinity, and no zero is above one.
+below-infinity : {x : Float} → Good x → lt x (inf false) ≡ true
 unfolding lt
-none-above nan = refl
-none-above (inf s) = refl
-none-above (fin s n e) = refl
+below-infinity {x} g = by-parts binary64 (λ x. lt x (inf false) ≡ true) (λ m e h. refl) x g
 
--- p is x where that is positive, and else zero; r is the smaller of p and the bound before.
-pub lowered-is : {lo p r : Float} (x : Float) → T (fits binary64 x) → Bound lo → p ≡ cond (lt 0·0 x) x 0·0 → r ≡ cond (lt p lo) p lo → Lowered lo x r
-unfolding lt finite
-lowered-is nan f b e d = lowered-other nan b (rw e at d)
-lowered-is (inf true) f b e d = lowered-other (inf true) b (rw e at d)
-lowered-is {lo} (inf false) f b e d =
-    rw (d, e, none-above lo) (record { bound = b; less = le-refl (units lo); covers = λ n t. absurd t })
-lowered-is (fin true n k) f b e d = lowered-other (fin true n k) b (rw e at d)
-lowered-is {lo} {p} {r} (fin false n k) f b e d = pick (lt 0·0 (fin false n k)) e
+one-not-below : {x : Float} → Good x → T (isZero x) → lt 1·0 x ≡ false
+one-not-below {x} g z = let e : units x ≡ 0 = eqb→eq (units x) 0 (rw (is-zero g) at z) in rw (lt-units one-is-good g, e, leb·suc-zero (units 1·0))
+
+-- z is one where x is zero, and else zero; w is the larger of x and z.
+pub lowered-is : {lo z w r : Float} (x : Float) → T (fits binary64 x) → Bound lo → z ≡ cond (isZero x) 1·0 0·0 → w ≡ cond (lt z x) x z → r ≡ cond (lt lo w) lo w → Lowered lo x r
+unfolding lt isZero eq finite
+lowered-is nan f b e d k = lowered-other b nan (rw (d, e) at k)
+lowered-is (inf true) f b e d k = lowered-other b (inf true) (rw (d, e) at k)
+lowered-is {lo} (inf false) f b e d k =
+    rw (k, d, e, below-infinity (b .good)) (record { bound = b; less = le-refl (units lo); covers = λ n t. absurd t })
+lowered-is {lo} {z} {w} {r} (fin true n i) f b e d k = pick (isZero (fin true n i)) (λ t. t) e
   where
-    pick : (t : Bool) → p ≡ cond t (fin false n k) 0·0 → Lowered lo (fin false n k) r
-    pick true e' = lowered-good b (record { plus = tt; held = f }) (rw e' at d)
-    pick false e' = lowered-other (fin false n k) b (rw e' at d)
+    pick : (t : Bool) → (T t → T (isZero (fin true n i))) → z ≡ cond t 1·0 0·0 → Lowered lo (fin true n i) r
+    pick true h e' = lowered-zero b (fin true n i) (h tt) (rw (d, e') at k)
+    pick false h e' = lowered-other b (fin true n i) (rw (d, e') at k)
+lowered-is {lo} {z} {w} {r} (fin false n i) f b e d k = pick (isZero x) (λ t. t) e
+  where
+    x : Float
+    x = fin false n i
+
+    good : Good x
+    good = record { plus = tt; held = f }
+
+    above : (t : Bool) → w ≡ cond t x 0·0 → Lowered lo x r
+    above true d' = lowered-good b good (rw d' at k)
+    above false d' = lowered-other b x (rw d' at k)
+
+    pick : (t : Bool) → (T t → T (isZero x)) → z ≡ cond t 1·0 0·0 → Lowered lo x r
+    pick true h e' = lowered-zero b x (h tt) (rw (d, e', one-not-below good (h tt)) at k)
+    pick false h e' = above (lt 0·0 x) (rw e' at d)
 
 -- ---- a loop along the row from `from`: the numbers before j are bounded
 pub least-begins : {lo : Float} {f : ℕ → Float} {from : ℕ} → Bound lo → Least lo f from from lo

@@ -1,6 +1,6 @@
 -- The laws behind the steps on sizes and leaving rates, as table operations.
 use mathlib.Core.Path.{_≡_, ap, ap₂, _∙_}
-use Prim.Native.Nat.{ℕ, suc, _+_, _-_, _≤_}
+use Prim.Native.Nat.{ℕ, suc, _+_, _-_, _≤_, _<_, zero-le}
 use native.Mathlib.Nat.{le-refl}
 use native.Mathlib.Numerals.{add-one}
 use native.Mathlib.Omega.{arith}
@@ -10,11 +10,12 @@ use lib.Ieee.{Float}
 use Rattle.definitions.specs.Numbers.{_⊕_, _⊗_, _⊘_, divInRange, all}
 use Rattle.elimination.specs.Places.{table32, Holds}
 use Rattle.elimination.specs.Operators.{replace, between, put, span}
-use Rattle.elimination.specs.Steps.{plusMultiple, overPivot, overPivotInRange, rowMultipliersInRange, IsStage, rowTest, eliminatedRow, eliminatedRows, stageDone}
+use Rattle.elimination.specs.Vectors.{vector, IsVector}
+use Rattle.elimination.specs.Steps.{plusMultiple, diagonal, overPivot, overPivotInRange, rowMultipliersInRange, IsStage, rowTest, eliminatedRow, eliminatedRows, stageDone}
 use Rattle.elimination.specs.Told.{Finds, StageFinite, StageFinds, pivotTested, stageTested}
 use Rattle.elimination.proofs.Flags.{both-left, all-same}
 use Rattle.elimination.proofs.Told.{told-from, told-both, told-exactly}
-use Rattle.elimination.proofs.Operators.{between-same, put-replaced}
+use Rattle.elimination.proofs.Operators.{between-in, between-same, put-replaced}
 
 -- Row i at stage k: the sums along the row, then the multiplier, then the leaving rate.
 pub row-eliminated : (r k i : ℕ) (s p : Float) (f : ℕ → ℕ → Float) {m e : Float} {xs ys zs : List Float}
@@ -47,6 +48,11 @@ stage-eliminated r k f {s} {p} {pivots} {rows} e t h₁ h₂ =
       tested = λ u. rw (← e .pivots, ← t) (both-left pivots rows u);
       holds = record { long = h₂ .long; is = h₂ .is ∙ rw (h₁ .holds .is, e .sum, e .pivots) };
     }
+
+-- The pivots of the rows after i, as they were put side by side at the start.
+pub pivots-due : {i : ℕ} {p : List Float} (r : ℕ) (f g : ℕ → ℕ → Float) (v : ℕ → Float) → IsVector p (between 0 r (diagonal g) v) → ((a : ℕ) → i ≤ a → f a ≡ g a) → (k : ℕ) → i < k → k < r → vector p k ≡ diagonal f k
+unfolding diagonal
+pivots-due r f g v h e k l m = rw (h .is, between-in 0 r (diagonal g) v k zero-le m, e k (omega arith))
 
 -- The upward multipliers of row i look at that row and those below it.
 pub upward-same : (r i : ℕ) (f g : ℕ → ℕ → Float) → ((a : ℕ) → i ≤ a → f a ≡ g a) → between (suc i) r (overPivot f i) (f i) ≡ between (suc i) r (overPivot g i) (g i)

@@ -8,7 +8,7 @@ use lib.Ieee.{Float, lt}
 use Rattle.definitions.specs.Numbers.{units}
 use Rattle.elimination.specs.Told.{Bound, Covers, Least}
 use Rattle.elimination.specs.Four.{FourBound, LoweredFour}
-use Rattle.elimination.proofs.Bounds.{smaller-is, covers-less, covers-more}
+use Rattle.elimination.proofs.Bounds.{smaller-is, smaller-bound, covers-less, covers-more}
 
 pub record UnderFour (lo a b c d : Float) : Type 0 where
   pub first : units lo ≤ units a
@@ -56,17 +56,17 @@ module _ {start : Float} {f : ℕ → Float} {from to : ℕ} {a b c d : Float} (
           covers-more lo f from (to + 3) (λ j l m. three j l (omega arith)) (covers-less d' lo (f (to + 3)) (u .fourth) (k .fourth .covers)) j l (omega arith)
 
   -- The smallest of the four.
-  pub four-ends : {ab cd r : Float} {hi : ℕ} → hi ≡ to → ab ≡ cond (lt a b) a b → cd ≡ cond (lt c d) c d → r ≡ cond (lt ab cd) ab cd → Least start f from hi r
-  four-ends {ab} {cd} {r} q e e' e'' =
+  pub four-ends : {ac bd r : Float} {hi : ℕ} → hi ≡ to → ac ≡ cond (lt a c) a c → bd ≡ cond (lt b d) b d → r ≡ cond (lt ac bd) ac bd → Least start f from hi r
+  four-ends {ac} {bd} {r} q e e' e'' =
       let v = h .bounds in
-      let s = smaller-is e (v .first .good) (v .second) in
-      let t = smaller-is e' (v .third .good) (v .fourth) in
-      let u = smaller-is e'' (s .bound .good) (t .bound) in
+      let s = smaller-is e (v .first .good) (v .third .good) in
+      let t = smaller-is e' (v .second .good) (v .fourth .good) in
+      let u = smaller-is e'' (s .good) (t .good) in
       let under : UnderFour r a b c d =
       record {
         first = le-trans (u .first) (s .first);
-        second = le-trans (u .first) (s .second);
-        third = le-trans (u .second) (t .first);
+        second = le-trans (u .second) (t .first);
+        third = le-trans (u .first) (s .second);
         fourth = le-trans (u .second) (t .second);
       } in
-      rw q (record { less = le-trans (under .first) (h .less); covering = record { bound = u .bound; covers = h .covers r under } })
+      rw q (record { less = le-trans (under .first) (h .less); covering = record { bound = smaller-bound u (smaller-bound s (v .first)); covers = h .covers r under } })

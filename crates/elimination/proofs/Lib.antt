@@ -6,6 +6,7 @@ pub mod Same
 pub mod Cases
 pub mod Places
 pub mod Operators
+pub mod Vectors
 pub mod Loops
 pub mod Flags
 pub mod Exchange

@@ -1,5 +1,6 @@
 pub mod Places
 pub mod Operators
+pub mod Vectors
 pub mod Steps
 pub mod Told
 pub mod Four

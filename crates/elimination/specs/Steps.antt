@@ -61,6 +61,10 @@ stagesDone r f (suc k) = stageDone r k (stagesDone r f k)
 unfoldable pub stagesInRange : ℕ → (ℕ → ℕ → Float) → ℕ → Bool
 stagesInRange r f k = all (λ l. stageInRange r (atStage (stagesDone r f l)) l) 0 k
 
+-- The pivots, where every stage is done.
+unfoldable pub diagonal : (ℕ → ℕ → Float) → ℕ → Float
+diagonal f k = f k k
+
 -- The upward multipliers, sizes after the diagonal over the pivots of their columns, in the rows before hi.
 unfoldable pub overPivot : (ℕ → ℕ → Float) → ℕ → ℕ → Float
 overPivot f i k = f i k ⊘ f k k

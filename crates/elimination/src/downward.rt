@@ -5,14 +5,16 @@ use crate::Stage;
 use crate::least;
 use crate::range;
 use crate::row;
+use crate::vector;
 ghost use mathlib.Core.Path.{_≡_};
-ghost use Prim.Native.Nat.{suc, _-_, _≤_, _<_};
+ghost use Prim.Native.Nat.{ℕ, suc, _-_, _≤_, _<_};
 ghost use lib.ListN.{length};
 ghost use Rattle.definitions.specs.Numbers.{all};
 ghost use Rattle.elimination.specs.Places.{table32, Gives};
-ghost use Rattle.elimination.specs.Operators.{replace, span};
+ghost use Rattle.elimination.specs.Operators.{replace, between, span};
+ghost use Rattle.elimination.specs.Vectors.{vector, IsVector};
 ghost use Rattle.elimination.specs.Contracts.{Shared};
-ghost use Rattle.elimination.specs.Steps.{IsStage, rowTest, eliminatedRow, eliminatedRows, stagesDone, stagesInRange, overPivot, upwardRows, rowMultipliersInRange};
+ghost use Rattle.elimination.specs.Steps.{IsStage, rowTest, eliminatedRow, eliminatedRows, stagesDone, stagesInRange, diagonal, overPivot, upwardRows, rowMultipliersInRange};
 ghost use Rattle.elimination.specs.Told.{Finds, RowFinite, StageFinite, StageFinds, Covering};
 
 // Stage k's running sum and pivot: s_k, and s_k with the sizes after the diagonal added, rising.
@@ -89,18 +91,29 @@ pub fn downward(r: usize, t: &mut [f64; 1024]) -> bool
     ok
 }
 
-// The upward multipliers of row i, its sizes after the diagonal over the pivots of their columns, and
+// The pivots side by side, since a row's divisors stand on the diagonal, one in each row.
+pub fn pivots(r: usize, t: &[f64; 1024], p: &mut [f64; 32])
+    requires { ⌜ (r ≤ 32) × (length (now t) ≡ 1024) × (length (now p) ≡ 32) ⌝ }
+    ensures { λ _. ⌜ IsVector (now (p .exit)) (between 0 r (diagonal (table32 (now (t .entry)))) (vector (now (p .entry)))) ⌝ }
+{
+    for k in 0..r {
+        let x = row::get(k, k, t);
+        vector::put(k, x, p);
+    }
+}
+
+// The upward multipliers of row i, its sizes after the diagonal over the pivots p of their columns, and
 // whether they are in range.
-pub fn upward_row(r: usize, i: usize, t: &mut [f64; 1024]) -> bool
-    requires { ⌜ (i < r) × (r ≤ 32) × (length (now t) ≡ 1024) ⌝ }
+pub fn upward_row(r: usize, i: usize, p: &[f64; 32], t: &mut [f64; 1024]) -> bool
+    requires { ⌜ (i < r) × (r ≤ 32) × (length (now p) ≡ 32) × (length (now t) ≡ 1024) × ((k : ℕ) → i < k → k < r → vector (now p) k ≡ diagonal (table32 (now t)) k) ⌝ }
     ensures { λ ok. ⌜ Gives ok (rowMultipliersInRange r (table32 (now (t .entry))) i) (now (t .exit)) (span i (suc i) r (overPivot (table32 (now (t .entry))) i) (table32 (now (t .entry)))) ⌝ }
 {
     let mut ok = true;
     for k in i + 1..r {
         let x = row::get(i, k, t);
-        let p = row::get(k, k, t);
-        let m = x / p;
-        let step = rounding::result_in_range(x, p, m);
+        let y = vector::get(k, p);
+        let m = x / y;
+        let step = rounding::result_in_range(x, y, m);
         ok = ok & step;
         row::put(i, k, m, t);
     }
@@ -111,9 +124,11 @@ pub fn upward_rows(r: usize, t: &mut [f64; 1024]) -> bool
     requires { ⌜ (r ≤ 32) × (length (now t) ≡ 1024) ⌝ }
     ensures { λ ok. ⌜ Gives ok (all (rowMultipliersInRange r (table32 (now (t .entry)))) 0 r) (now (t .exit)) (upwardRows r r (table32 (now (t .entry)))) ⌝ }
 {
+    let mut p = [0.0; 32];
+    pivots(r, t, &mut p);
     let mut ok = true;
     for i in 0..r {
-        let row = upward_row(r, i, t);
+        let row = upward_row(r, i, &p, t);
         ok = ok & row;
     }
     ok

@@ -7,7 +7,7 @@ ghost use mathlib.Core.Bool.{cond};
 ghost use Prim.Native.Nat.{_+_, _*_, _≤_, _<_};
 ghost use lib.ListN.{length};
 ghost use lib.Ieee.{lt};
-ghost use Rattle.definitions.specs.Numbers.{0·0};
+ghost use Rattle.definitions.specs.Numbers.{0·0, 1·0, isZero};
 ghost use Rattle.elimination.specs.Places.{table32};
 ghost use Rattle.elimination.specs.Told.{Bound, Lowered, Least};
 ghost use Rattle.elimination.specs.Four.{FourBound, LoweredFour};
@@ -29,25 +29,32 @@ pub fn smaller(x: f64, y: f64) -> f64
     y
 }
 
-// Zero in the place of what is not positive: such a number is no size, and the bound zero passes no test.
-pub fn positive(x: f64) -> f64
-    ensures { λ r. ⌜ r ≡ cond (lt 0·0 x) x 0·0 ⌝ }
+pub fn larger(x: f64, y: f64) -> f64
+    ensures { λ r. ⌜ r ≡ cond (lt y x) x y ⌝ }
 {
-    if 0.0 < x {
+    if y < x {
         return x;
+    }
+    y
+}
+
+// What the bound may be where x is not positive. A zero asks nothing: a product with it is zero, and no
+// bound is above one. Any other such number is no size, and the bound zero passes no test.
+pub fn floor(x: f64) -> f64
+    ensures { λ r. ⌜ r ≡ cond (isZero x) 1·0 0·0 ⌝ }
+{
+    if x == 0.0 {
+        return 1.0;
     }
     0.0
 }
 
-// The bound for x too. A zero asks nothing: a product with it is zero.
+// The bound for x too. It compiles to comparisons without a branch, so four bounds go through vector code.
 pub fn lower(lo: f64, x: f64) -> f64
     requires { ⌜ Bound lo ⌝ }
     ensures { λ r. ⌜ Lowered lo x r ⌝ }
 {
-    if x == 0.0 {
-        return lo;
-    }
-    smaller(positive(x), lo)
+    smaller(lo, larger(x, floor(x)))
 }
 
 pub fn lower_four(lo: Four, k: usize, j: usize, a: &[f64; 1024]) -> Four
@@ -76,7 +83,7 @@ pub fn least_of_fours(lo: f64, k: usize, from: usize, count: usize, a: &[f64; 10
     for g in 0..count {
         four = lower_four(four, k, from + 4 * g, a);
     }
-    smaller(smaller(four.a, four.b), smaller(four.c, four.d))
+    smaller(smaller(four.a, four.c), smaller(four.b, four.d))
 }
 
 // The bound for the numbers of row k from `from` up to `to`, one by one.

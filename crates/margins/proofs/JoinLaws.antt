@@ -10,7 +10,7 @@ use Rattle.definitions.specs.Margins.{sumWith, sumWithInRange}
 use Rattle.elimination.specs.Places.{table32, Holds, Gives}
 use Rattle.elimination.specs.Operators.{replace, between, put, span}
 use Rattle.elimination.proofs.Operators.{put-replaced, replace-own}
-use Rattle.margins.specs.Vectors.{vector, IsVector}
+use Rattle.elimination.specs.Vectors.{vector, IsVector}
 use Rattle.margins.specs.Join.{factorsOf, columnRow, unitRow, joinTest, joinedTable}
 
 -- A loop that adds where the test holds, and its additions.

@@ -16,7 +16,7 @@ use Rattle.elimination.specs.Places.{table32, Holds, Gives}
 use Rattle.elimination.specs.Operators.{between}
 use Rattle.elimination.proofs.Cases.{by-equal, by-order}
 use Rattle.elimination.proofs.Operators.{replace-same, replace-other, between-in, between-past}
-use Rattle.margins.specs.Vectors.{vector}
+use Rattle.elimination.specs.Vectors.{vector}
 use Rattle.margins.specs.Ratios.{margin, ratio, diagonalOf, Diagonals}
 use Rattle.margins.specs.Compact.{keeps}
 use Rattle.margins.specs.Join.{knows, unitRow, factorsOf, columnRow, joinedTable, placeInRange, joinTest, isKept, isKnown, xAfter, dueInRange, Known, StageJoins, StagesJoin}

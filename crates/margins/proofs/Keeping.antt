@@ -21,7 +21,7 @@ use Rattle.elimination.proofs.Same.{Same, same-quotient, same-in-range}
 use Rattle.elimination.proofs.Operators.{replace-same, replace-other, between-in}
 use Rattle.elimination.proofs.Places.{table-at}
 use Rattle.elimination.proofs.Flags.{same-truth, all-same}
-use Rattle.margins.specs.Vectors.{vector}
+use Rattle.elimination.specs.Vectors.{vector}
 use Rattle.margins.specs.Ratios.{margin, ratio, diagonalOf, Ratios}
 use Rattle.margins.specs.Compact.{keeps, stageAt, Listing, rate, packedRow, placed, unpackedRow}
 use Rattle.margins.specs.Range.{sizeInRange, rateInRange}

@@ -1,4 +1,3 @@
-pub mod Vectors
 pub mod Loops
 pub mod Conditions
 pub mod RatioLaws

@@ -6,7 +6,7 @@ use mathlib.Core.List.{List}
 use lib.Ieee.{Float}
 use Rattle.definitions.specs.Numbers.{_⊗_, 0·0, sum, addInRange, divInRange, sumInRange}
 use Rattle.definitions.specs.Margins.{ratioInRange}
-use Rattle.margins.specs.Vectors.{vector}
+use Rattle.elimination.specs.Vectors.{vector}
 use Rattle.margins.specs.Ratios.{margin, ratio, Ratios}
 use Rattle.margins.specs.Range.{beforeInRange}
 

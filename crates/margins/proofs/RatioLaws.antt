@@ -16,7 +16,7 @@ use Rattle.steps.proofs.Margins.{known-by, h-known-by, k-is, h-is, a-is}
 use Rattle.elimination.specs.Operators.{replace}
 use Rattle.elimination.proofs.Cases.{by-equal, by-order}
 use Rattle.elimination.proofs.Operators.{replace-same, replace-other}
-use Rattle.margins.specs.Vectors.{vector, IsVector}
+use Rattle.elimination.specs.Vectors.{vector, IsVector}
 use Rattle.margins.specs.Ratios.{margin, ratio, sumOf, diagonalOf, RatiosBefore, Ratios}
 
 stored-beyond : (m : ℕ) (g : ℕ → Float) (j : ℕ) → m ≤ j → stored 0·0 m g j ≡ 0·0

@@ -13,7 +13,7 @@ use Rattle.elimination.specs.Places.{table32, Holds}
 use Rattle.elimination.specs.Operators.{between}
 use Rattle.elimination.specs.Contracts as Engine
 use Rattle.elimination.proofs.Places.{table-at}
-use Rattle.margins.specs.Vectors.{vector}
+use Rattle.elimination.specs.Vectors.{vector}
 use Rattle.margins.specs.Ratios.{margin, ratio, Ratios}
 use Rattle.margins.specs.Compact.{keeps, stageAt, Listing, packedRow, placed, unpackedRow}
 use Rattle.margins.specs.Range.{sizeInRange, rateInRange}

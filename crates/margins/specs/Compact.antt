@@ -8,7 +8,7 @@ use lib.Ieee.{Float}
 use Rattle.definitions.specs.Numbers.{_⊗_, _⊘_, 0·0, isZero, sum}
 use Rattle.definitions.specs.Margins.{stagesWith, rank}
 use Rattle.elimination.specs.Operators.{replace, between}
-use Rattle.margins.specs.Vectors.{vector}
+use Rattle.elimination.specs.Vectors.{vector}
 
 -- A stage is kept by its h, read from the vector h.
 unfoldable pub keeps : List Float → ℕ → Bool

@@ -1,4 +1,3 @@
-pub mod Vectors
 pub mod Ratios
 pub mod Compact
 pub mod Range

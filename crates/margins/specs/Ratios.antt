@@ -5,7 +5,7 @@ use mathlib.Core.List.{List}
 use lib.ListN.{length}
 use lib.Ieee.{Float}
 use Rattle.definitions.specs.Margins as Margins
-use Rattle.margins.specs.Vectors.{vector, IsVector}
+use Rattle.elimination.specs.Vectors.{vector, IsVector}
 
 abbrev pub margin : (ℕ → ℕ → Float) → ℕ → Float
 margin f i = f i i

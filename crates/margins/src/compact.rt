@@ -1,14 +1,14 @@
 // The kept stages as a system for the engine, in compact order, and the way back from its answer.
 use crate::kept;
-use crate::vector;
 use elimination::row;
+use elimination::vector;
 ghost use mathlib.Core.Path.{_≡_};
 ghost use Prim.Native.Nat.{suc, _-_, _≤_, _<_};
 ghost use lib.ListN.{length};
 ghost use Rattle.definitions.specs.Numbers.{_⊗_, _⊘_, 0·0, sum};
 ghost use Rattle.elimination.specs.Places.{table32, Holds};
 ghost use Rattle.elimination.specs.Operators.{replace, between, span};
-ghost use Rattle.margins.specs.Vectors.{vector};
+ghost use Rattle.elimination.specs.Vectors.{vector};
 ghost use Rattle.margins.specs.Compact.{stageAt, Stages, packedRow, placed, unpackedRow};
 
 // The new leaving rate of stage i, over every j > i, kept or not.

@@ -2,8 +2,8 @@
 use crate::join_range;
 use crate::kept;
 use crate::known;
-use crate::vector;
 use elimination::row;
+use elimination::vector;
 ghost use mathlib.Core.Path.{_≡_};
 ghost use Prim.Native.Nat.{suc, _-_, _≤_, _<_};
 ghost use lib.ListN.{length};
@@ -11,7 +11,7 @@ ghost use Rattle.definitions.specs.Numbers.{_⊗_, _⊘_};
 ghost use Rattle.definitions.specs.Margins.{sumWith};
 ghost use Rattle.elimination.specs.Places.{table32, Holds, Gives};
 ghost use Rattle.elimination.specs.Operators.{replace, between};
-ghost use Rattle.margins.specs.Vectors.{vector, IsVector};
+ghost use Rattle.elimination.specs.Vectors.{vector, IsVector};
 ghost use Rattle.margins.specs.Ratios.{Diagonals};
 ghost use Rattle.margins.specs.Join.{knows, factorsOf, columnRow, unitRow, joinedTable, joinTest, Known, StageJoins, StagesJoin};
 

@@ -1,14 +1,14 @@
 // The range tests of a stage that joins.
 use crate::known;
-use crate::vector;
 use elimination::row;
+use elimination::vector;
 ghost use mathlib.Core.Path.{_≡_};
 ghost use mathlib.Core.Bool.{not, _||_};
 ghost use Prim.Native.Nat.{_≤_, _<_};
 ghost use lib.ListN.{length};
 ghost use Rattle.definitions.specs.Numbers.{divInRange, all};
 ghost use Rattle.elimination.specs.Places.{table32};
-ghost use Rattle.margins.specs.Vectors.{vector};
+ghost use Rattle.elimination.specs.Vectors.{vector};
 ghost use Rattle.margins.specs.Join.{knows, placeInRange, joinTest};
 
 // The divisions t_lc / a_c of the known l.

@@ -1,5 +1,5 @@
 // The kept stages, rising: a list of stage numbers at the front of 32 places, with their count.
-use crate::vector;
+use elimination::vector;
 ghost use mathlib.Core.Path.{_≡_};
 ghost use Prim.Native.Nat.{suc, _≤_, _<_};
 ghost use lib.ListN.{length, getD};

@@ -10,7 +10,6 @@ pub mod kept;
 pub mod known;
 pub mod range;
 pub mod ratios;
-pub mod vector;
 
 ghost use mathlib.Core.Path.{_≡_};
 ghost use Prim.Native.Nat.{_≤_};

@@ -1,8 +1,8 @@
 // The range tests: whether steps are in range, told from the numbers before the steps. No number is
 // changed, and no test ends a loop early.
 use crate::kept;
-use crate::vector;
 use elimination::row;
+use elimination::vector;
 ghost use mathlib.Core.Path.{_≡_};
 ghost use mathlib.Core.Bool.{_&&_, _||_};
 ghost use Prim.Native.Nat.{suc, _-_, _≤_, _<_};
@@ -11,7 +11,7 @@ ghost use lib.ListN.{length};
 ghost use Rattle.definitions.specs.Numbers.{_⊗_, _⊘_, 0·0, sum, addInRange, mulInRange, divInRange, sumInRange, all};
 ghost use Rattle.definitions.specs.Margins.{ratioInRange};
 ghost use Rattle.elimination.specs.Places.{table32};
-ghost use Rattle.margins.specs.Vectors.{vector};
+ghost use Rattle.elimination.specs.Vectors.{vector};
 ghost use Rattle.margins.specs.Ratios.{margin, ratio, Ratios};
 ghost use Rattle.margins.specs.Compact.{stageAt, Stages};
 ghost use Rattle.margins.specs.Range.{beforeInRange, sizeInRange, rateInRange};

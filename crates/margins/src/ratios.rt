@@ -1,12 +1,12 @@
 // h_i, a_i and k_i of every stage, rising: each h_i needs the k_j of the stages before i.
-use crate::vector;
 use elimination::row;
+use elimination::vector;
 ghost use mathlib.Core.Path.{_≡_};
 ghost use Prim.Native.Nat.{suc, _-_, _≤_, _<_};
 ghost use lib.ListN.{length};
 ghost use Rattle.definitions.specs.Numbers.{_⊗_, 0·0, sum};
 ghost use Rattle.elimination.specs.Places.{table32};
-ghost use Rattle.margins.specs.Vectors.{vector, IsVector};
+ghost use Rattle.elimination.specs.Vectors.{vector, IsVector};
 ghost use Rattle.margins.specs.Ratios.{Ratios, RatiosBefore};
 
 // The sum of t_ij·k_j over j < i.

@@ -1,7 +1,7 @@
 -- `margins::solve_margins` meets its contract. Assumes nothing.
 use mathlib.Core.Path.{refl}
 use Rattle.margins.proofs.Loops.{zero-word}
-use Rattle.margins.proofs.Vectors.{zero-vector}
+use Rattle.elimination.proofs.Vectors.{zero-vector}
 use Rattle.margins.proofs.Solving.{margins-solved}
 use Rattle.margins.proofs.solve_margins.Statement.{statement}
 use Rattle.margins.proofs.solve_margins.Tie as tie

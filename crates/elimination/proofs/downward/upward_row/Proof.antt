@@ -6,24 +6,24 @@ use native.Mathlib.Omega.{arith}
 use borrow.Author.Needs.{needs}
 use Rattle.rounding.proofs.Steps.{quotient-test}
 use Rattle.elimination.specs.Places.{table32}
-use Rattle.elimination.specs.Steps.{overPivot, overPivotInRange, rowMultipliersInRange}
+use Rattle.elimination.specs.Steps.{diagonal, overPivot, overPivotInRange, rowMultipliersInRange}
 use Rattle.elimination.proofs.Flags.{Gathered, gathered-begins, gathered-turns, gathered-ends}
-use Rattle.elimination.proofs.Loops.{Along, along-begins, along-due, along-else, along-turns, along-ends}
+use Rattle.elimination.proofs.Loops.{Along, along-begins, along-due, along-turns, along-ends}
 use Rattle.elimination.proofs.RowSteps.{over-pivot, over-pivot-test}
 use Rattle.elimination.proofs.downward.upward_row.Statement.{statement}
 use Rattle.elimination.proofs.downward.upward_row.Tie as tie
 
 abbrev Inv-loop : tie.InvT-loop
-Inv-loop r i t₀ ok₀ k₀ t ok k = (k ≤ r) × Along i (suc i) (overPivot (table32 t₀) i) (table32 t₀) t k × Gathered (λ l. overPivotInRange (table32 t₀) l i) (suc i) k ok
+Inv-loop r i p t₀ ok₀ k₀ t ok k = (k ≤ r) × Along i (suc i) (overPivot (table32 t₀) i) (table32 t₀) t k × Gathered (λ l. overPivotInRange (table32 t₀) l i) (suc i) k ok
 
 abbrev μ-loop : tie.MeasureT-loop
-μ-loop r i t₀ ok₀ k₀ t ok k = r - k
+μ-loop r i p t₀ ok₀ k₀ t ok k = r - k
 
 add-k : tie.Need-add-k Inv-loop μ-loop
 add-k c = search needs
 
 loop-holds : tie.Need-loop-holds Inv-loop μ-loop
-loop-holds c = (search needs, along-begins (add-one (c .args .i)) (c .pre .2), gathered-begins (add-one (c .args .i)))
+loop-holds c = (search needs, along-begins (add-one (c .args .i)) (c .pre .3), gathered-begins (add-one (c .args .i)))
 
 get-requires : tie.Need-get-requires Inv-loop μ-loop
 get-requires c κs = search needs
@@ -44,16 +44,17 @@ loop-less : tie.Need-loop-less Inv-loop μ-loop
 loop-less c = search needs
 
 loop-again : tie.Need-loop-again Inv-loop μ-loop
+unfolding diagonal
 loop-again c =
     let q = c .before .before in
     let p = q .before in
-    let x = p .before .before in
+    let x = p .before in
     let l = x .before .before .before in
     let s = l .before .args in
     let h = l .loop .inv .1 in
     let f = table32 (s .t .now) in
     let a = x .get .ensures ∙ along-due h in
-    let b = p .get2 .ensures ∙ along-else h (l .loop .k) (l .loop .k) (λ e. omega (arith, h .from)) in (
+    let b = p .get2 .ensures ∙ l .before .pre .4 (l .loop .k) (h .from) (omega arith) in (
       omega arith,
       along-turns h (c .put .ensures) (over-pivot f (s .i) (l .loop .k) a b),
       gathered-turns (l .loop .inv .2) (over-pivot-test f (s .i) (l .loop .k) a b (q .result-in-range .ensures ∙ quotient-test (x .get .result) (p .get2 .result))),

@@ -6,26 +6,34 @@ use borrow.Author.Needs.{needs}
 use Rattle.elimination.specs.Places.{table32}
 use Rattle.elimination.specs.Operators.{between, span}
 use Rattle.elimination.specs.Steps.{overPivot, upwardRows, rowMultipliersInRange}
-use Rattle.elimination.proofs.DownwardLaws.{upward-same, upward-tests-same}
+use Rattle.elimination.proofs.DownwardLaws.{pivots-due, upward-same, upward-tests-same}
 use Rattle.elimination.proofs.Flags.{Gathered, gathered-begins, gathered-turns, gathered-all}
 use Rattle.elimination.proofs.Loops.{Down, down-begins, down-due, down-turns, down-ends}
 use Rattle.elimination.proofs.downward.upward_rows.Statement.{statement}
 use Rattle.elimination.proofs.downward.upward_rows.Tie as tie
 
 abbrev Inv-loop : tie.InvT-loop
-Inv-loop r t₀ ok₀ i₀ t ok i =
+Inv-loop r t₀ p ok₀ i₀ t ok i =
     (i ≤ r)
     × Down 0 (λ l. between (suc l) r (overPivot (table32 t₀) l) (table32 t₀ l)) (table32 t₀) t i
     × Gathered (rowMultipliersInRange r (table32 t₀)) 0 i ok
 
 abbrev μ-loop : tie.MeasureT-loop
-μ-loop r t₀ ok₀ i₀ t ok i = r - i
+μ-loop r t₀ p ok₀ i₀ t ok i = r - i
+
+pivots-requires : tie.Need-pivots-requires Inv-loop μ-loop
+pivots-requires c κs = search needs
 
 loop-holds : tie.Need-loop-holds Inv-loop μ-loop
-loop-holds c = (search needs, down-begins refl (c .pre .1), gathered-begins refl)
+loop-holds c = (search needs, down-begins refl (c .before .before .before .pre .1), gathered-begins refl)
 
 upward-row-requires : tie.Need-upward-row-requires Inv-loop μ-loop
-upward-row-requires c κs = search needs
+upward-row-requires c κs =
+    let l = c .before .before .before in
+    let p = l .before .pivots .ensures in
+    let s = l .before .before .before .before in
+    let h = l .loop .inv .1 in
+    (omega arith, s .pre .0, p .long, h .holds .long, pivots-due (s .args .r) (table32 (l .loop .t)) (table32 (s .args .t .now)) _ p (down-due h))
 
 add-i : tie.Need-add-i Inv-loop μ-loop
 add-i c = search needs
@@ -36,8 +44,8 @@ loop-less c = search needs
 loop-again : tie.Need-loop-again Inv-loop μ-loop
 unfolding span
 loop-again c =
-    let l = c .before .before .before in
-    let s = l .before .args in
+    let l = c .before .before .before .before in
+    let s = l .before .before .before .before .args in
     let h = l .loop .inv .1 in
     let g = c .upward-row .ensures in
     let f = table32 (l .loop .t) in (
@@ -55,4 +63,4 @@ returns c =
 pub upward-rows-spec : {M : Type 1} → statement M
 upward-rows-spec =
     tie.close
-    (tie.spec Inv-loop μ-loop loop-holds upward-row-requires add-i loop-less loop-again returns)
+    (tie.spec Inv-loop μ-loop pivots-requires loop-holds upward-row-requires add-i loop-less loop-again returns)

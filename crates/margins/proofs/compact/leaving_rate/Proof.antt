@@ -6,7 +6,7 @@ use borrow.Author.Needs.{needs}
 use Rattle.definitions.specs.Numbers.{_⊗_, _⊘_, 0·0}
 use Rattle.elimination.specs.Places.{table32}
 use Rattle.elimination.proofs.Flags.{Summed, summed-begins, summed-turns, summed-ends}
-use Rattle.margins.specs.Vectors.{vector}
+use Rattle.elimination.specs.Vectors.{vector}
 use Rattle.margins.proofs.Loops.{zero-word}
 use Rattle.margins.proofs.compact.leaving_rate.Statement.{statement}
 use Rattle.margins.proofs.compact.leaving_rate.Tie as tie

@@ -5,7 +5,7 @@ use native.Mathlib.Omega.{arith}
 use borrow.Author.Needs.{needs}
 use Rattle.elimination.specs.Places.{table32}
 use Rattle.elimination.proofs.Loops.{Down, down-begins, down-ends}
-use Rattle.margins.specs.Vectors.{vector}
+use Rattle.elimination.specs.Vectors.{vector}
 use Rattle.margins.specs.Compact.{stageAt, packedRow}
 use Rattle.margins.proofs.Loops.{rows-turn}
 use Rattle.margins.proofs.compact.pack.Statement.{statement}

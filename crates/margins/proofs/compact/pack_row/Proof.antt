@@ -1,7 +1,7 @@
 -- `margins::compact::pack_row` meets its contract. Assumes nothing.
 use native.Mathlib.Omega.{arith}
 use Rattle.elimination.specs.Places.{table32}
-use Rattle.margins.specs.Vectors.{vector}
+use Rattle.elimination.specs.Vectors.{vector}
 use Rattle.margins.specs.Compact.{stageAt}
 use Rattle.margins.proofs.CompactLaws.{stage-below, stages-wider, row-packed}
 use Rattle.margins.proofs.compact.pack_row.Statement.{statement}

@@ -6,7 +6,7 @@ use borrow.Author.Needs.{needs}
 use Rattle.definitions.specs.Numbers.{_⊗_}
 use Rattle.elimination.specs.Places.{table32}
 use Rattle.elimination.proofs.Loops.{Along, along-begins, along-turns, along-ends}
-use Rattle.margins.specs.Vectors.{vector}
+use Rattle.elimination.specs.Vectors.{vector}
 use Rattle.margins.specs.Compact.{stageAt}
 use Rattle.margins.proofs.CompactLaws.{stage-below}
 use Rattle.margins.proofs.compact.pack_sizes.Statement.{statement}

@@ -3,7 +3,7 @@ use Prim.Native.Nat.{_≤_, _-_}
 use native.Mathlib.Omega.{arith}
 use borrow.Author.Needs.{needs}
 use Rattle.elimination.specs.Places.{table32, Holds}
-use Rattle.margins.specs.Vectors.{vector}
+use Rattle.elimination.specs.Vectors.{vector}
 use Rattle.margins.specs.Compact.{stageAt, placed, unpackedRow}
 use Rattle.margins.proofs.CompactLaws.{placed-begins, placed-turns, placed-ends}
 use Rattle.margins.proofs.compact.unpack.Statement.{statement}

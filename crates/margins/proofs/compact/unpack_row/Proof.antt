@@ -5,7 +5,7 @@ use borrow.Author.Needs.{needs}
 use Rattle.definitions.specs.Numbers.{_⊗_}
 use Rattle.elimination.specs.Places.{table32, Holds}
 use Rattle.elimination.specs.Operators.{replace}
-use Rattle.margins.specs.Vectors.{vector}
+use Rattle.elimination.specs.Vectors.{vector}
 use Rattle.margins.specs.Compact.{stageAt, placed}
 use Rattle.margins.proofs.CompactLaws.{stage-below, scatter-begins, scatter-turns, row-unpacked}
 use Rattle.margins.proofs.compact.unpack_row.Statement.{statement}

@@ -7,7 +7,7 @@ use Rattle.definitions.specs.Numbers.{_⊗_}
 use Rattle.definitions.specs.Margins.{sumWith}
 use Rattle.steps.proofs.Sums.{sumWith-none}
 use Rattle.elimination.specs.Places.{table32}
-use Rattle.margins.specs.Vectors.{vector}
+use Rattle.elimination.specs.Vectors.{vector}
 use Rattle.margins.specs.Join.{knows}
 use Rattle.margins.proofs.Loops.{zero-word, at-end}
 use Rattle.margins.proofs.JoinLaws.{with-turns}

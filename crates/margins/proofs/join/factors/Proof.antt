@@ -5,8 +5,8 @@ use borrow.Author.Needs.{needs}
 use Rattle.definitions.specs.Numbers.{_⊘_}
 use Rattle.elimination.specs.Places.{table32}
 use Rattle.elimination.specs.Operators.{between}
-use Rattle.margins.specs.Vectors.{vector, IsVector}
-use Rattle.margins.proofs.Vectors.{vector-begins, vector-turns, vector-ends}
+use Rattle.elimination.specs.Vectors.{vector, IsVector}
+use Rattle.elimination.proofs.Vectors.{vector-begins, vector-turns, vector-ends}
 use Rattle.margins.proofs.join.factors.Statement.{statement}
 use Rattle.margins.proofs.join.factors.Tie as tie
 

@@ -2,7 +2,7 @@
 use mathlib.Core.Path.{refl, sym, _∙_}
 use borrow.Author.Needs.{needs}
 use Rattle.elimination.specs.Places.{table32}
-use Rattle.margins.specs.Vectors.{vector}
+use Rattle.elimination.specs.Vectors.{vector}
 use Rattle.margins.specs.Join.{knows}
 use Rattle.margins.proofs.JoinLaws.{place-filled, place-left}
 use Rattle.margins.proofs.join.fill_place.Statement.{statement}

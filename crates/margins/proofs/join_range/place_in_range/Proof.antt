@@ -9,7 +9,7 @@ use Rattle.definitions.specs.Margins.{sumWith, sumWithInRange}
 use Rattle.steps.proofs.Sums.{sumWith-none}
 use Rattle.elimination.specs.Places.{table32}
 use Rattle.elimination.proofs.Flags.{Gathered, gathered-begins, gathered-turns, gathered-all}
-use Rattle.margins.specs.Vectors.{vector}
+use Rattle.elimination.specs.Vectors.{vector}
 use Rattle.margins.specs.Join.{knows, placeInRange}
 use Rattle.margins.proofs.Loops.{zero-word, at-end}
 use Rattle.margins.proofs.JoinLaws.{with-none, with-turns, with-gathered-turns}

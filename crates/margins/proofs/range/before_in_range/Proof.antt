@@ -7,7 +7,7 @@ use borrow.Author.Needs.{needs}
 use Rattle.definitions.specs.Numbers.{_⊗_, 0·0, mulInRange}
 use Rattle.elimination.specs.Places.{table32}
 use Rattle.elimination.proofs.Flags.{Gathered, Summed, SumGathered, gathered-begins, gathered-turns, gathered-all, summed-begins, summed-turns, sum-gathered-begins, sum-gathered-turns}
-use Rattle.margins.specs.Vectors.{vector}
+use Rattle.elimination.specs.Vectors.{vector}
 use Rattle.margins.specs.Range.{beforeInRange}
 use Rattle.margins.proofs.Loops.{zero-word, sum-gathered-all}
 use Rattle.margins.proofs.range.before_in_range.Statement.{statement}

@@ -8,7 +8,7 @@ use borrow.Author.Needs.{needs}
 use Rattle.definitions.specs.Numbers.{_⊗_, _⊘_, 0·0, mulInRange, divInRange}
 use Rattle.elimination.specs.Places.{table32}
 use Rattle.elimination.proofs.Flags.{Gathered, Summed, SumGathered, gathered-begins, gathered-turns, gathered-ends, summed-begins, summed-turns, sum-gathered-begins, sum-gathered-turns, sum-gathered-ends}
-use Rattle.margins.specs.Vectors.{vector}
+use Rattle.elimination.specs.Vectors.{vector}
 use Rattle.margins.specs.Range.{rateInRange}
 use Rattle.margins.proofs.Loops.{zero-word}
 use Rattle.margins.proofs.range.rate_in_range.Statement.{statement}

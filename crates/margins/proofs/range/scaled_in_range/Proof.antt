@@ -7,7 +7,7 @@ use borrow.Author.Needs.{needs}
 use Rattle.definitions.specs.Numbers.{all}
 use Rattle.elimination.specs.Places.{table32}
 use Rattle.elimination.proofs.Flags.{Gathered, gathered-begins, gathered-turns, gathered-all}
-use Rattle.margins.specs.Vectors.{vector}
+use Rattle.elimination.specs.Vectors.{vector}
 use Rattle.margins.specs.Compact.{stageAt}
 use Rattle.margins.specs.Range.{sizeInRange, rateInRange}
 use Rattle.margins.proofs.CompactLaws.{stage-below, stages-wider}

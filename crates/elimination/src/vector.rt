@@ -2,8 +2,8 @@
 ghost use mathlib.Core.Path.{_≡_};
 ghost use Prim.Native.Nat.{_<_};
 ghost use lib.ListN.{length};
 ghost use Rattle.elimination.specs.Operators.{replace};
-ghost use Rattle.margins.specs.Vectors.{vector, IsVector};
+ghost use Rattle.elimination.specs.Vectors.{vector, IsVector};
 
 pub fn get(i: usize, v: &[f64; 32]) -> f64
     requires { ⌜ (i < 32) × (length (now v) ≡ 32) ⌝ }

@@ -1,9 +1,9 @@
--- `margins::vector::get` meets its contract. Assumes nothing.
+-- `elimination::vector::get` meets its contract. Assumes nothing.
 use borrow.Author.Needs.{needs}
 use lib.Ieee.{nan}
-use Rattle.margins.proofs.Vectors.{read-vector}
-use Rattle.margins.proofs.vector.get.Statement.{statement}
-use Rattle.margins.proofs.vector.get.Tie as tie
+use Rattle.elimination.proofs.Vectors.{read-vector}
+use Rattle.elimination.proofs.vector.get.Statement.{statement}
+use Rattle.elimination.proofs.vector.get.Tie as tie
 
 mul-result : tie.Need-mul-result
 mul-result c = search needs

@@ -1,8 +1,8 @@
--- `margins::vector::put` meets its contract. Assumes nothing.
+-- `elimination::vector::put` meets its contract. Assumes nothing.
 use borrow.Author.Needs.{needs}
-use Rattle.margins.proofs.Vectors.{write-vector}
-use Rattle.margins.proofs.vector.put.Statement.{statement}
-use Rattle.margins.proofs.vector.put.Tie as tie
+use Rattle.elimination.proofs.Vectors.{write-vector}
+use Rattle.elimination.proofs.vector.put.Statement.{statement}
+use Rattle.elimination.proofs.vector.put.Tie as tie
 
 mul-v : tie.Need-mul-v
 mul-v c = search needs

@@ -1,23 +1,18 @@
 -- The places of a vector: one that is read, one that is written, and a vector of zeros.
-use mathlib.Core.Path.{_≡_, refl, sym, _∙_, fun-ext}
-use Prim.Native.Nat.{ℕ, zero, suc, _+_, _≤_, _<_, zero-le}
-use native.Mathlib.Nat.{le-refl, le-antisymm, le-of-suc-le-suc}
+use mathlib.Core.Path.{_≡_, sym, _∙_, fun-ext}
+use Prim.Native.Nat.{ℕ, _+_, _≤_, _<_, zero-le}
+use native.Mathlib.Nat.{le-refl, le-antisymm}
 use native.Mathlib.Omega.{arith}
-use mathlib.Core.List.{List, [], _∷_}
+use mathlib.Core.List.{List}
 use lib.ListN.{length, getD, set, replicate, length-set, length-replicate, getD-replicate, List·getD-eq-default}
 use lib.Seq.{getD-set-same, getD-set-other}
 use lib.Ieee.{Float}
 use Rattle.definitions.specs.Numbers.{0·0}
 use Rattle.elimination.specs.Operators.{replace, between}
 use Rattle.elimination.proofs.Cases.{by-equal, by-order}
+use Rattle.elimination.proofs.Places.{any-default}
 use Rattle.elimination.proofs.Operators.{replace-same, replace-other, between-none, between-step}
-use Rattle.margins.specs.Vectors.{vector, IsVector}
-
--- Inside a list the value beyond its end does not matter.
-any-default : {A : Type 0} (xs : List A) (i : ℕ) (d e : A) → i < length xs → getD xs i d ≡ getD xs i e
-any-default [] i d e h = let z : ⊥ = omega arith in absurd z
-any-default (x ∷ xs) zero d e h = refl
-any-default (x ∷ xs) (suc i) d e h = any-default xs i d e (le-of-suc-le-suc h)
+use Rattle.elimination.specs.Vectors.{vector, IsVector}
 
 module _ {i : ℕ} (xs : List Float) (long : length xs ≡ 32) (hi : i < 32) where
   within : i < length xs

@@ -1,0 +1,50 @@
+-- `elimination::downward::pivots` meets its contract: at stage k the places before it are filled. Assumes nothing.
+use Prim.Native.Nat.{_≤_, _-_}
+use native.Mathlib.Omega.{arith}
+use borrow.Author.Needs.{needs}
+use Rattle.elimination.specs.Places.{table32}
+use Rattle.elimination.specs.Operators.{between}
+use Rattle.elimination.specs.Vectors.{vector, IsVector}
+use Rattle.elimination.specs.Steps.{diagonal}
+use Rattle.elimination.proofs.Vectors.{vector-begins, vector-turns, vector-ends}
+use Rattle.elimination.proofs.downward.pivots.Statement.{statement}
+use Rattle.elimination.proofs.downward.pivots.Tie as tie
+
+abbrev Inv-loop : tie.InvT-loop
+Inv-loop r t p₀ k₀ p k = (k ≤ r) × IsVector p (between 0 k (diagonal (table32 t)) (vector p₀))
+
+abbrev μ-loop : tie.MeasureT-loop
+μ-loop r t p₀ k₀ p k = r - k
+
+loop-holds : tie.Need-loop-holds Inv-loop μ-loop
+loop-holds c = (search needs, vector-begins (diagonal (table32 (c .args .t .now))) (c .pre .2))
+
+get-requires : tie.Need-get-requires Inv-loop μ-loop
+get-requires c κs = search needs
+
+put-requires : tie.Need-put-requires Inv-loop μ-loop
+put-requires c κs = search needs
+
+add-k : tie.Need-add-k Inv-loop μ-loop
+add-k c = search needs
+
+loop-less : tie.Need-loop-less Inv-loop μ-loop
+loop-less c = search needs
+
+loop-again : tie.Need-loop-again Inv-loop μ-loop
+unfolding diagonal
+loop-again c =
+    let g = c .before .before in
+    let l = g .before .before in
+    let s = l .before .args in
+    (omega arith, vector-turns (diagonal (table32 (s .t .now))) (vector (s .p .now)) (l .loop .k) (l .loop .inv .1) (c .put .ensures) (g .get .ensures))
+
+returns : tie.Need-returns Inv-loop μ-loop
+returns c =
+    let l = c .before in
+    let s = l .before .args in
+    vector-ends (diagonal (table32 (s .t .now))) (vector (s .p .now)) (l .loop .inv .1) (omega arith) (omega arith)
+
+pub pivots-spec : {M : Type 1} → statement M
+pivots-spec =
+    tie.close (tie.spec Inv-loop μ-loop loop-holds get-requires put-requires add-k loop-less loop-again returns)
