@@ -80,6 +80,18 @@ pub identity-inside : (r : ℕ) (f : ℕ → ℕ → Float) (i j : ℕ) → i < 
 unfolding identityRows identityRow
 identity-inside r f i j l m = rows-inside r identityRow f i j l m
 
+-- The downward stages from i on keep row i, and the first k stages keep the columns from k on.
+pub down-keeps : (r : ℕ) (g f : ℕ → ℕ → Float) (i j d : ℕ) → downDone r g f (i + d) i j ≡ downDone r g f i i j
+unfolding downDone
+down-keeps r g f i j zero = rw (add-zero i)
+down-keeps r g f i j (suc d) =
+    rw (add-suc i d) (not-added (i + d) (suc (i + d)) r (suc (i + d)) g (downDone r g f (i + d)) i j (λ a b. omega arith) ∙ down-keeps r g f i j d)
+
+pub down-right : (r : ℕ) (g f : ℕ → ℕ → Float) (i j k : ℕ) → k ≤ j → downDone r g f k i j ≡ f i j
+unfolding downDone
+down-right r g f i j zero l = refl
+down-right r g f i j (suc k) l = right-of-added k (suc k) r (suc k) g (downDone r g f k) i j l ∙ down-right r g f i j k (omega arith)
+
 -- The upward stages of rows up to i keep row i.
 pub up-keeps : (r : ℕ) (g f : ℕ → ℕ → Float) (i j q d : ℕ) → r ≤ suc i + q → upDone r g f (q + d) i j ≡ upDone r g f q i j
 unfolding upDone
@@ -105,13 +117,8 @@ module _ (r : ℕ) (at : ℕ → System) (g : ℕ → ℕ → Float) (h : Multip
         ∙ down-row k i j (omega arith) m n
         ∙ ap (λ b. b i) (sym (column-before r at j k (lt-leb j k o))))
 
-    down-keeps : (i j d : ℕ) → downDone r g f (i + d) i j ≡ downDone r g f i i j
-    unfolding downDone
-    down-keeps i j zero = rw (add-zero i)
-    down-keeps i j (suc d) = rw (add-suc i d) (not-added (i + d) (suc (i + d)) r (suc (i + d)) g (downDone r g f (i + d)) i j (λ a b. omega arith) ∙ down-keeps i j d)
-
     pub down-end : (i j : ℕ) → i < r → j < r → downDone r g f r i j ≡ b↓ r at j i i
-    down-end i j l m = let e : i + (r - i) ≡ r = omega arith in (rw e at (down-keeps i j (r - i))) ∙ down-row i i j (le-refl i) l m
+    down-end i j l m = let e : i + (r - i) ≡ r = omega arith in (rw e at (down-keeps r g f i j (r - i))) ∙ down-row i i j (le-refl i) l m
 
   -- Upward, from where the downward stages end.
   module _ (f : ℕ → ℕ → Float) (start : (i j : ℕ) → i < r → j < r → f i j ≡ b↓ r at j i i) where

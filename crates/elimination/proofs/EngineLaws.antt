@@ -1,19 +1,20 @@
 -- From the table operations to the promises of `shared` and `solve`.
 use mathlib.Core.Path.{_≡_, sym, ap, ap₂, _∙_}
-use Prim.Native.Nat.{ℕ, _≤_, _<_}
+use Prim.Native.Nat.{ℕ, suc, _-_, _≤_, _<_}
 use native.Mathlib.Omega.{arith}
-use mathlib.Core.Bool.{Bool, _&&_, cond}
+use mathlib.Core.Bool.{Bool, _&&_, _||_}
 use mathlib.Core.List.{List}
 use lib.Dec.{T, eqb}
-use lib.Ieee.{Float}
-use Rattle.definitions.specs.Numbers.{0·0, 1·0, all}
-use Rattle.definitions.specs.LeavingRates.{System, downward, b↓, solved, inRange}
+use lib.Ieee.{Float, lt}
+use Rattle.definitions.specs.Numbers.{_⊘_, smallest, finite, isZero, divInRange, addProductInRange, sumInRange, all}
+use Rattle.definitions.specs.LeavingRates.{System, downward, p, u, m↓, b↓, solved, rowInRange, stageInRange, sharedBefore, shared, inRange}
+use Rattle.steps.proofs.LeavingRates.{multiplier-is}
 use Rattle.elimination.specs.Places.{table32, at32, systemIn, systemOf, Holds, Gives}
-use Rattle.elimination.specs.Steps.{stagesDone, stagesInRange, upwardRows, multipliersInRange, rowMultipliersInRange, identityRows, downDone, downInRange, upDone, upInRange, dividedRows, quotientsInRange}
+use Rattle.elimination.specs.Steps.{stagesDone, stagesInRange, upwardRows, multipliersInRange, rowMultipliersInRange, IsIdentity, identityRows, downDone, downInRange, upDone, upInRange, dividedRows, quotientsInRange}
 use Rattle.elimination.specs.Contracts.{Multipliers, Keeps, Shared, Solved}
-use Rattle.elimination.specs.Told.{Told, Finds, FiniteTable}
+use Rattle.elimination.specs.Told.{Told, Finds, FiniteBelow, FiniteTable}
 use Rattle.elimination.proofs.Places.{table-at}
-use Rattle.elimination.proofs.Flags.{same-truth, both, both-left, both-right}
+use Rattle.elimination.proofs.Flags.{same-truth, both, both-left, both-right, each}
 use Rattle.elimination.proofs.Same.{Same, downward-same, p-same, m↓-same, m↑-same, shared-same}
 use Rattle.elimination.proofs.SharedLaws.{shared-test, row-by-row, multipliers, outside-kept}
 use Rattle.elimination.proofs.ColumnSteps.{identity-inside, identity-outside, down-end, down-outside, up-end, up-outside, last-end, last-outside}
@@ -32,6 +33,22 @@ told-backwards {down} {up} {last} {d} {u} {q} h k e f g =
     (λ t.
     let l = both-left (d && u) q t in
     both (down && up) q (both down up (h .passes (both-left d u l)) (k .passes (both-right d u l))) (both-right (d && u) q t)))
+
+-- The multipliers are quotients whose steps are in range.
+shared-finite : (r : ℕ) (at : ℕ → System) → T (shared r at) → (k i : ℕ) → k < i → i < r → T (finite (m↓ r at k i))
+unfolding shared sharedBefore stageInRange rowInRange divInRange
+shared-finite r at t k i l m =
+    let x = at k .t i k in
+    let stage : T (stageInRange r at k) = each (stageInRange r at) 0 r k (both-left (sharedBefore r at r) (all (λ k. all (λ i. divInRange (u r at i k) (p r at k)) 0 k) 0 r) t) (omega arith) (omega arith) in
+    let row : T (rowInRange r at k i) = each (rowInRange r at k) (suc k) (r - suc k) i (both-right (sumInRange (at k .s k) (at k .t k) (suc k) (r - suc k)) (all (rowInRange r at k) (suc k) (r - suc k)) stage) l (omega arith) in
+    let exit = addProductInRange (at k .s i) (m↓ r at k i) (at k .s k) in
+    let sizes = all (λ j. eqb i j || addProductInRange (at k .t i j) (m↓ r at k i) (at k .t k j)) (suc k) (r - suc k) in
+    rw (multiplier-is r at k i)
+    (both-left (finite (x ⊘ p r at k)) (isZero x || isZero (p r at k) || lt smallest (x ⊘ p r at k))
+    (both-left (divInRange x (p r at k)) exit (both-left (divInRange x (p r at k) && exit) sizes row)))
+
+pub identity-holds : (r : ℕ) (f : ℕ → ℕ → Float) {xs : List Float} → Holds xs (identityRows r r f) → IsIdentity r (table32 xs)
+identity-holds r f h i j l m = rw (h .is) (identity-inside r f i j l m)
 
 module _ (r : ℕ) (small : r ≤ 32) where
   -- The table of a list and its places are one system.
@@ -83,6 +100,10 @@ module _ (r : ℕ) (small : r ≤ 32) where
 
   -- The steps on b, one after another.
   module _ (t t' b : List Float) {ok : Bool} (s : Shared r t t' ok) where
+    pub multipliers-finite : T ok → FiniteBelow r (table32 t')
+    multipliers-finite e k i l m =
+        rw (table-at 32 i k t' (omega arith) (omega arith), s .multipliers .below k i l m) (shared-finite r (downward r (systemOf t)) (rw (s .range) at e) k i l m)
+
     pub solve-gives : {b₁ b₂ b₃ b₄ : List Float} {down up last : Bool}
         → Holds b₁ (identityRows r r (table32 b))
         → Finds down (downInRange r (table32 t') (table32 b₁) r) (FiniteTable r (downDone r (table32 t') (table32 b₁) r)) b₂ (downDone r (table32 t') (table32 b₁) r)
@@ -94,7 +115,7 @@ module _ (r : ℕ) (small : r ≤ 32) where
         let at = downward r (systemOf t) in
         let g = table32 t' in
         let m : Multipliers r at g = as-table at t' (s .multipliers) in
-        let e₁ : (i j : ℕ) → i < r → j < r → table32 b₁ i j ≡ cond (eqb i j) 1·0 0·0 = λ i j l k. rw (h₁ .is) (identity-inside r (table32 b) i j l k) in
+        let e₁ = identity-holds r (table32 b) h₁ in
         let e₂ : (i j : ℕ) → i < r → j < r → table32 b₂ i j ≡ b↓ r at j i i = λ i j l k. rw (h₂ .holds .is) (down-end r at g m (table32 b₁) e₁ i j l k) in
         let e₃ : (i j : ℕ) → i < r → j < r → table32 b₃ i j ≡ solved r at j i = λ i j l k. rw (h₃ .holds .is) (up-end r at g m (table32 b₂) e₂ i j l k) in
         record {

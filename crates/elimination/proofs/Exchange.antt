@@ -20,6 +20,13 @@ triangle q r =
     (λ t. every (λ j. all (λ l. q l j) j (r - j)) 0 r (λ j a b. every (λ l. q l j) j (r - j) (λ l c d. each (q l) 0 (suc l) j (each (λ l. all (q l) 0 (suc l)) 0 r l t (omega arith) (omega arith)) a (omega arith))))
     (λ t. every (λ l. all (q l) 0 (suc l)) 0 r (λ l c d. every (q l) 0 (suc l) (λ j a b. each (λ l. q l j) j (r - j) l (each (λ j. all (λ l. q l j) j (r - j)) 0 r j t a (omega arith)) (omega arith) (omega arith))))
 
+-- Every i before r with every l before i.
+pub below : (q : ℕ → ℕ → Bool) (r : ℕ) → all (λ i. all (q i) 0 i) 0 r ≡ all (λ l. all (λ i. q i l) (suc l) (r - suc l)) 0 r
+below q r =
+    same-truth (all (λ i. all (q i) 0 i) 0 r) (all (λ l. all (λ i. q i l) (suc l) (r - suc l)) 0 r)
+    (λ t. every (λ l. all (λ i. q i l) (suc l) (r - suc l)) 0 r (λ l a b. every (λ i. q i l) (suc l) (r - suc l) (λ i c d. each (q i) 0 i l (each (λ i. all (q i) 0 i) 0 r i t (omega arith) (omega arith)) a (omega arith))))
+    (λ t. every (λ i. all (q i) 0 i) 0 r (λ i c d. every (q i) 0 i (λ l a b. each (λ i. q i l) (suc l) (r - suc l) i (each (λ l. all (λ i. q i l) (suc l) (r - suc l)) 0 r l t a (omega arith)) (omega arith) (omega arith))))
+
 -- Every i and every l whose sum is at most r - 2.
 pub corner : (q : ℕ → ℕ → Bool) (r : ℕ) → all (λ i. all (q i) 0 (r - suc i)) 0 r ≡ all (λ l. all (λ i. q i l) 0 (r - suc l)) 0 r
 corner q r =

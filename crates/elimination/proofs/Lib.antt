@@ -19,7 +19,9 @@ mod Quick
 mod Multiples
 mod RangeLaws
 mod DownwardLaws
+mod RowStages
 mod UpwardLaws
+mod DescentLaws
 mod ColumnLaws
 mod SharedLaws
 mod FiniteStages

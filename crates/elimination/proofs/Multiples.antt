@@ -1,14 +1,16 @@
 -- The range test of a multiple of a row, added to any row, by a bound or by its products.
-use mathlib.Core.Path.{_≡_, sym, _∙_}
-use Prim.Native.Nat.{ℕ, _<_}
+use mathlib.Core.Path.{_≡_, refl, sym, _∙_}
+use Prim.Native.Nat.{ℕ, _-_, _≤_, _<_}
+use native.Mathlib.Nat.{sub-zero}
 use native.Mathlib.Omega.{arith}
 use mathlib.Core.Bool.{Bool, true, false, _||_}
 use lib.Dec.{T}
 use lib.Ieee.{Float, binary64, fits, lt}
+use lib.Ieee.Bits.{is-true}
 use Rattle.definitions.specs.Numbers.{_⊗_, smallest, finite, isZero, mulInRange, all}
 use Rattle.rounding.proofs.Finite.{sum-finite}
 use Rattle.elimination.specs.Steps.{plusMultiple, plusMultipleInRange, timesInRange}
-use Rattle.elimination.specs.Told.{Told, FiniteRow, Bound, Covers, Covering, Quick}
+use Rattle.elimination.specs.Told.{Told, FiniteRow, Bound, Covers, Covering, Quick, QuickRow, quickAt, productsAt}
 use Rattle.elimination.proofs.Flags.{each, every}
 use Rattle.elimination.proofs.Quick.{quick-product, zero-product, product-of-step, step-of-product}
 
@@ -47,3 +49,19 @@ module _ (m : Float) (own other : ℕ → Float) (c : ℕ) where
         passes = λ _. tt;
         tells = λ f _. row-of-products f (λ j l. quick-times m lo (other j) (q .held) (d .bound) (d .covers j (omega arith) l) (rw (sym (q .is) ∙ e) tt));
       }
+
+-- The multipliers of a row, tested one after another.
+pub quick-at : {m lo : Float} {ok : Bool} (own : ℕ → Float) (k : ℕ) → m ≡ own k → Quick m lo ok → ok ≡ quickAt lo own k
+unfolding quickAt
+quick-at own k e h = h .is ∙ rw e
+
+pub products-at : (r : ℕ) (own : ℕ → Float) (f : ℕ → ℕ → Float) (k : ℕ) {m : Float} {ok : Bool} → m ≡ own k → ok ≡ all (timesInRange m (f k)) 0 (r - 0) → ok ≡ productsAt r own f k
+unfolding productsAt
+products-at r own f k e h = h ∙ rw (sub-zero r, e)
+
+pub quick-row-tells : {lo : Float} {own : ℕ → Float} {from to : ℕ} {ok : Bool} → QuickRow lo own from to ok → ok ≡ true → (k c : ℕ) (start other : ℕ → Float) → from ≤ k → k < to → Covering lo other 0 c
+    → Told true (all (plusMultipleInRange (own k) start other) 0 c) (FiniteRow c (plusMultiple (own k) start other))
+unfolding quickAt
+quick-row-tells {lo} {own} {from} {to} h e k c start other l m d =
+    let passed : quickAt lo own k ≡ true = is-true (quickAt lo own k) (each (quickAt lo own) from (to - from) k (rw (← h .is, e) tt) l (omega arith)) in
+    by-bound (own k) start other c (record { is = refl; held = h .held k l m }) passed d

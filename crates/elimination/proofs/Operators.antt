@@ -54,6 +54,9 @@ module _ {A : Type 0} where
       (λ m. between-in lo hi g f a l m ∙ e a l m ∙ sym (between-in lo hi h f a l m)))
       (λ l. between-low lo hi g f a l ∙ sym (between-low lo hi h f a l)))
 
+  pub between-own : (lo hi : ℕ) (f : ℕ → A) → between lo hi f f ≡ f
+  between-own lo hi f = fun-ext (λ a. by-order lo a (λ l. by-order hi a (λ m. between-past lo hi f f a m) (λ m. between-in lo hi f f a l m)) (λ l. between-low lo hi f f a l))
+
   pub between-step : (lo hi : ℕ) (g f : ℕ → A) → lo ≤ hi → replace hi (g hi) (between lo hi g f) ≡ between lo (hi + 1) g f
   between-step lo hi g f l =
       fun-ext (λ a. by-equal a hi

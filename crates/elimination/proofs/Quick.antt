@@ -1,21 +1,24 @@
 -- The quick range test: where the product with the bound is above 2^-1022, so are the products with the numbers that it bounds. And what a zero makes of a step.
-use mathlib.Core.Path.{_≡_, refl, sym, _∙_}
+use mathlib.Core.Path.{_≡_, refl, sym, ap, _∙_}
 use mathlib.Core.Logic.{inl, inr}
-use Prim.Native.Nat.{ℕ, zero, suc, _+_, _*_, _^_, _<_}
-use native.Mathlib.Nat.{le-refl, eq-zero-or-pos, eq-of-mul-eq-mul-right, zero-mul, mul-pos, zero-lt-suc}
+use Prim.Native.Nat.{ℕ, zero, suc, _+_, _-_, _*_, _^_, _<_, zero-le}
+use native.Mathlib.Nat.{le-refl, eq-zero-or-pos, eq-of-mul-eq-mul-right, add-zero, sub-zero, zero-mul, mul-zero, mul-pos, zero-lt-suc}
 use native.Mathlib.Omega.{arith}
 use mathlib.Core.Bool.{Bool, true, false, _||_, cond, Bool·beq}
 use lib.Dec.{T, eqb, ltb, eqb→eq, eqb·suc-zero}
 use lib.Pow.{pow-pos}
 use lib.IntN.{ℤ, pos}
-use lib.Ieee.{Float, nan, inf, fin, Format, binary64, prec, low, emax, up, down, unlike, odd, round, mul, div, lt, eq, fits}
+use lib.Ieee.{Float, nan, inf, fin, Format, binary64, prec, low, emax, up, down, unlike, odd, round, sum, add, mul, div, lt, eq, fits}
 use lib.Ieee.Exact.{HasValue, round-exact}
 use lib.Ieee.Fits.{round-is, eq→eqb, up-pos, down-pos}
 use lib.Ieee.Order.{kept, drop}
+use lib.Ieee.Scale.{round-same}
 use lib.Ieee as Ieee
-use Rattle.definitions.specs.Numbers.{_⊕_, _⊗_, _⊘_, smallest, finite, isZero, addInRange, mulInRange, addProductInRange, units}
+use borrow.Author.Tests.{le-ltb}
+use Rattle.definitions.specs.Numbers.{_⊕_, _⊗_, _⊘_, 0·0, smallest, finite, isZero, addInRange, mulInRange, addProductInRange, units}
 use Rattle.rounding.specs.Good.{Good}
-use Rattle.rounding.proofs.Value.{by-parts}
+use Rattle.rounding.proofs.Value.{amount, value, by-parts}
+use Rattle.rounding.proofs.Round.{round-back}
 use Rattle.rounding.proofs.Laws.{unique-units, zero-is-good, units-zero}
 use Rattle.rounding.proofs.Finite.{product-finite}
 use Rattle.rounding.proofs.Zeros.{times-zero}
@@ -124,6 +127,49 @@ round-zero s c C = from (round binary64 s 0 c) (round-exact binary64 s 0 c 0 0 C
     from nan v = absurd v
     from (inf r) v = absurd v
     from (fin r n e) v = amount-zero r n e (eq-of-mul-eq-mul-right c C (n * up e) 0 (v .1 ∙ zero-mul (down e) ∙ sym (zero-mul c)))
+
+-- ---- a number that is zero in the other row: where the multiplier is finite, x + m·0 is x
+sum-with-zero : (s : Bool) (a c : ℕ) → sum binary64 false a s 0 c ≡ round binary64 false a c
+unfolding sum
+sum-with-zero true a c =
+    ap (λ (b : Bool). cond b (round binary64 true (0 - a) c) (round binary64 false (a - 0) c)) (le-ltb a 0 zero-le)
+    ∙ ap (λ (d : ℕ). round binary64 false d c) (sub-zero a)
+sum-with-zero false a c = ap (λ (d : ℕ). round binary64 false d c) (add-zero a)
+
+widened : (a p u l q : ℕ) → a * l ≡ u * p → a * q * l ≡ u * (p * q)
+widened a p u l q h = let v = ap (λ (z : ℕ). z * q) h in omega arith
+
+plus-amount : {x : Float} → Good x → (s : Bool) (n : ℕ) (d : ℤ) → n * up d ≡ 0 → x ⊕ fin s n d ≡ x
+unfolding add
+plus-amount {x} g s n d z =
+    by-parts binary64 (λ x. x ⊕ fin s n d ≡ x)
+    (λ m e h.
+    ap (λ (b : ℕ). sum binary64 false (m * up e * down d) s b (down e * down d)) (ap (λ (a : ℕ). a * down e) z ∙ zero-mul (down e))
+    ∙ sum-with-zero s (m * up e * down d) (down e * down d)
+    ∙ back m e h)
+    x g
+  where
+    back : (m : ℕ) (e : ℤ) → Good (fin false m e) → round binary64 false (m * up e * down d) (down e * down d) ≡ fin false m e
+    back m e h =
+        round-same binary64 false (m * up e * down d) (down e * down d) (amount binary64 (fin false m e)) (2 ^ low binary64)
+        (mul-pos (down-pos e) (down-pos d)) (pow-pos (low binary64))
+        (widened (m * up e) (down e) (amount binary64 (fin false m e)) (2 ^ low binary64) (down d) (value h .1))
+        ∙ round-back h
+
+plus-zero-of-sign : {x : Float} (y : Float) → Good x → T (isZero y) → x ⊕ y ≡ x
+unfolding isZero eq
+plus-zero-of-sign nan g t = absurd t
+plus-zero-of-sign (inf s) g t = absurd t
+plus-zero-of-sign (fin s n d) g t = plus-amount g s n d (zero-amount s n d t)
+
+times-plus-zero : (m : Float) → T (finite m) → T (isZero (m ⊗ 0·0))
+unfolding mul finite
+times-plus-zero nan t = absurd t
+times-plus-zero (inf s) t = absurd t
+times-plus-zero (fin s n e) t = rw (mul-zero (n * up e)) (round-zero (unlike s false) (down e * 1) (mul-pos (down-pos e) (zero-lt-suc 0)))
+
+pub zero-other : {x y : Float} (m : Float) → Good x → T (finite m) → y ≡ 0·0 → x ⊕ m ⊗ y ≡ x
+zero-other m g t e = rw e (plus-zero-of-sign (m ⊗ 0·0) g (times-plus-zero m t))
 
 -- A divisor that is zero gives no finite quotient.
 over-number : (k : ℕ) (x y : Float) → (T (finite x) → ⊥) → (0 < k → T (isZero y)) → T (finite (cond (eqb k 0) x y)) → T (isZero (cond (eqb k 0) x y))

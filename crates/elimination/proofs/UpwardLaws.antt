@@ -1,125 +1,58 @@
 -- The laws behind the upward steps row by row.
 use mathlib.Core.Path.{_≡_, refl, sym, ap, _∙_, fun-ext}
 use Prim.Native.Nat.{ℕ, zero, suc, _+_, _-_, _≤_, _<_}
-use native.Mathlib.Nat.{le-refl, le-antisymm, add-zero, add-suc, sub-zero}
-use native.Mathlib.Numerals.{add-one}
+use native.Mathlib.Nat.{le-refl, sub-zero}
 use native.Mathlib.Omega.{arith}
 use mathlib.Core.Bool.{Bool, true}
 use mathlib.Core.List.{List}
-use lib.Dec.{T}
 use lib.ListN.{length}
 use lib.Ieee.{Float}
-use lib.Ieee.Bits.{is-true}
-use Rattle.definitions.specs.Numbers.{_⊕_, _⊗_, finite, all}
-use Rattle.rounding.proofs.Finite.{sum-finite}
+use Rattle.definitions.specs.Numbers.{_⊕_, _⊗_, all}
 use Rattle.elimination.specs.Places.{table32, Holds}
 use Rattle.elimination.specs.Operators.{replace, between, span}
-use Rattle.elimination.specs.Steps.{plusMultiple, plusMultipleInRange, timesInRange, rowsAddedInRange, upDone, upInRange, climbed, climbInRange}
-use Rattle.elimination.specs.Told.{Told, FiniteRow, FiniteTable, Bound, Covering, Least, Quick, QuickRow, quickAt, productsAt}
+use Rattle.elimination.specs.Steps.{plusMultiple, plusMultipleInRange, rowsAddedInRange, upDone, upInRange, staged, stagedInRange, climbed, climbInRange}
+use Rattle.elimination.specs.Told.{Told, FiniteRow, FiniteTable, Bound, Covering, Least, QuickRow, productsAt}
 use Rattle.elimination.proofs.Cases.{by-equal, by-order}
 use Rattle.elimination.proofs.Flags.{each, every, all-same}
 use Rattle.elimination.proofs.Exchange.{corner, reversed}
 use Rattle.elimination.proofs.Told.{told-from}
 use Rattle.elimination.proofs.Bounds.{covering-less}
 use Rattle.elimination.proofs.RowSteps.{step-same, step-test-same}
-use Rattle.elimination.proofs.Multiples.{by-products, by-bound}
+use Rattle.elimination.proofs.RowStages.{Staged, staged-turns, parts-join, staged-by-products, staged-by-bound}
 use Rattle.elimination.proofs.Operators.{between-in, between-low, between-past, between-none, between-front, span-row}
 use Rattle.elimination.proofs.ColumnSteps.{added, up-keeps, up-outside}
-use Rattle.elimination.proofs.Loops.{Along, along-past, along-else, along-joins}
+use Rattle.elimination.proofs.Loops.{Along}
 
--- The number x of row i in column j after q turns of the loop over the stages.
-pub record Climbs (r : ℕ) (g f : ℕ → ℕ → Float) (i q j : ℕ) (x : Float) : Type 0 where
-  pub is : x ≡ climbed r g f i q j
+-- The rows after i, from the last.
+abbrev pub Climbs : ℕ → (ℕ → ℕ → Float) → (ℕ → ℕ → Float) → ℕ → ℕ → ℕ → Float → Type 0
+Climbs r g f i q j x = Staged (λ q. r - suc q) g f i q j x
 
-module _ {r : ℕ} {g f : ℕ → ℕ → Float} {i j : ℕ} {x : Float} where
-  pub climb-begins : x ≡ f i j → Climbs r g f i 0 j x
-  unfolding climbed
-  climb-begins e = record { is = e }
+pub climb-turns : (r : ℕ) {g f : ℕ → ℕ → Float} {i q j : ℕ} {x m y : Float} → Climbs r g f i q j x → m ≡ g i (r - 1 - q) → y ≡ f (r - 1 - q) j → Climbs r g f i (q + 1) j (x ⊕ m ⊗ y)
+climb-turns r {q = q} h a b = let k : r - 1 - q ≡ r - suc q = omega arith in staged-turns h (rw k at a) (rw k at b)
 
-  module _ {q : ℕ} (h : Climbs r g f i q j x) where
-    pub climb-turns : {m y : Float} → m ≡ g i (r - 1 - q) → y ≡ f (r - 1 - q) j → Climbs r g f i (q + 1) j (x ⊕ m ⊗ y)
-    unfolding climbed plusMultiple
-    climb-turns a b = let k : r - 1 - q ≡ r - suc q = omega arith in record { is = rw (add-one q) (rw (← k) (step-same (h .is) a b)) }
-
-    pub climb-ends : {s : ℕ} → q ≤ s → s ≤ q → x ≡ climbed r g f i s j
-    climb-ends l m = rw (le-antisymm l m) at (h .is)
-
--- A row's stages look at one column, of that row and of the rows after it.
-pub climbed-same : (r : ℕ) (g e f : ℕ → ℕ → Float) (i j : ℕ) → e i j ≡ f i j → ((k : ℕ) → i < k → e k j ≡ f k j) → (q : ℕ) → q ≤ r - suc i → climbed r g e i q j ≡ climbed r g f i q j
-unfolding climbed plusMultiple
-climbed-same r g e f i j own later zero l = own
-climbed-same r g e f i j own later (suc q) l =
-    step-same (climbed-same r g e f i j own later q (omega arith)) refl (later (r - suc q) (omega arith))
-
--- So the columns of row i may be done in parts.
 pub climb-joins : (r : ℕ) (g : ℕ → ℕ → Float) {f : ℕ → ℕ → Float} {i lo j hi : ℕ} {xs ys : List Float}
     → Along i lo (climbed r g f i (r - suc i)) f xs j
     → Holds ys (span i j hi (climbed r g (table32 xs) i (r - suc i)) (table32 xs))
     → j ≤ hi
     → Along i lo (climbed r g f i (r - suc i)) f ys hi
-climb-joins r g {f} {i} {xs = xs} h k l =
-    along-joins h k l (λ a m n. climbed-same r g (table32 xs) f i a (along-past h a m) (λ b o. along-else h b a (λ e. omega arith)) (r - suc i) (le-refl (r - suc i)))
+climb-joins r g {i = i} h k l = parts-join (λ q. r - suc q) g (λ q o e. omega arith) h k l
 
 -- ---- the tests of a row's upward stages
-pub quick-at : {m lo : Float} {ok : Bool} (own : ℕ → Float) (k : ℕ) → m ≡ own k → Quick m lo ok → ok ≡ quickAt lo own k
-unfolding quickAt
-quick-at own k e h = h .is ∙ rw e
-
-pub products-at : (r : ℕ) (own : ℕ → Float) (f : ℕ → ℕ → Float) (k : ℕ) {m : Float} {ok : Bool} → m ≡ own k → ok ≡ all (timesInRange m (f k)) 0 (r - 0) → ok ≡ productsAt r own f k
-unfolding productsAt
-products-at r own f k e h = h ∙ rw (sub-zero r, e)
-
 module _ (r : ℕ) (g f : ℕ → ℕ → Float) (i : ℕ) where
-  -- A finite sum has finite parts, so every number on the way to a finite one is finite.
-  way-finite : (j q d : ℕ) → T (finite (climbed r g f i (q + d) j)) → T (finite (climbed r g f i q j))
-  unfolding climbed plusMultiple
-  way-finite j q zero t = rw (add-zero q) at t
-  way-finite j q (suc d) t =
-      let k = r - suc (q + d) in
-      way-finite j q d (sum-finite (climbed r g f i (q + d) j) (g i k ⊗ f k j) (rw (add-suc q d) at t) .0)
-
-  stages-finite : FiniteRow r (climbed r g f i (r - suc i)) → (q : ℕ) → q < r - suc i → FiniteRow r (plusMultiple (g i (r - suc q)) (climbed r g f i q) (f (r - suc q)))
-  unfolding climbed
-  stages-finite h q l j m =
-      let e : r - suc i ≡ suc q + (r - suc i - suc q) = omega arith in
-      way-finite j (suc q) (r - suc i - suc q) (rw e at (h j m))
-
-  stageTest : ℕ → Bool
-  stageTest q = all (plusMultipleInRange (g i (r - suc q)) (climbed r g f i q) (f (r - suc q))) 0 r
-
-  products-tell : (q : ℕ) → Told (productsAt r (g i) f (r - suc q)) (stageTest q) (FiniteRow r (plusMultiple (g i (r - suc q)) (climbed r g f i q) (f (r - suc q))))
-  unfolding productsAt stageTest
-  products-tell q = by-products (g i (r - suc q)) (climbed r g f i q) (f (r - suc q)) r refl
-
   pub climb-by-products : {ok : Bool} → ok ≡ all (productsAt r (g i) f) (suc i) (r - suc i) → Told ok (climbInRange r g f i) (FiniteRow r (climbed r g f i (r - suc i)))
-  unfolding climbInRange stageTest
   climb-by-products e =
-      record {
-        passes = λ t. rw e (every (productsAt r (g i) f) (suc i) (r - suc i) (λ k l h.
-            let same : r - suc (r - suc k) ≡ k = omega arith in
-            rw same at (products-tell (r - suc k) .passes (each stageTest 0 (r - suc i) (r - suc k) t (omega arith) (omega arith)))));
-        tells = λ h t. every stageTest 0 (r - suc i) (λ q l m.
-            products-tell q .tells (stages-finite h q (omega arith)) (each (productsAt r (g i) f) (suc i) (r - suc i) (r - suc q) (rw e at t) (omega arith) (omega arith)));
-      }
+      staged-by-products (λ q. r - suc q) (λ q. r) g f i (r - suc i) r (λ q l. le-refl r)
+      (λ t. rw e (every (productsAt r (g i) f) (suc i) (r - suc i) (λ k l h.
+      let same : r - suc (r - suc k) ≡ k = omega arith in
+      rw same at (t (r - suc k) (omega arith)))))
+      (λ t q l. each (productsAt r (g i) f) (suc i) (r - suc i) (r - suc q) (rw e at t) (omega arith) (omega arith))
 
-  module _ {lo : Float} {ok : Bool} (h : QuickRow lo (g i) (suc i) r ok) (e : ok ≡ true) where
-    quick-passed : (k : ℕ) → i < k → k < r → quickAt lo (g i) k ≡ true
-    quick-passed k l m = is-true (quickAt lo (g i) k) (each (quickAt lo (g i)) (suc i) (r - suc i) k (rw (← h .is, e) tt) l (omega arith))
-
-    quick-tells : (k : ℕ) (own : ℕ → Float) → i < k → k < r → Covering lo (f k) 0 r → Told true (all (plusMultipleInRange (g i k) own (f k)) 0 r) (FiniteRow r (plusMultiple (g i k) own (f k)))
-    unfolding quickAt
-    quick-tells k own l m d = by-bound (g i k) own (f k) r (record { is = refl; held = h .held k l m }) (quick-passed k l m) d
-
-    pub climb-by-bound : ((k : ℕ) → i < k → k < r → Covering lo (f k) 0 r) → Told true (climbInRange r g f i) (FiniteRow r (climbed r g f i (r - suc i)))
-    unfolding climbInRange stageTest
-    climb-by-bound d =
-        record {
-          passes = λ _. tt;
-          tells = λ u _. every stageTest 0 (r - suc i) (λ q l m.
-              let first : i < r - suc q = omega arith in
-              let last : r - suc q < r = omega arith in
-              quick-tells (r - suc q) (climbed r g f i q) first last (d (r - suc q) first last) .tells (stages-finite u q (omega arith)) tt);
-        }
+  pub climb-by-bound : {lo : Float} {ok : Bool} → QuickRow lo (g i) (suc i) r ok → ok ≡ true → ((k : ℕ) → i < k → k < r → Covering lo (f k) 0 r) → Told true (climbInRange r g f i) (FiniteRow r (climbed r g f i (r - suc i)))
+  climb-by-bound h e d =
+      staged-by-bound (λ q. r - suc q) (λ q. r) g f i (r - suc i) r (λ q l. le-refl r) h e (λ q l.
+      let first : i < r - suc q = omega arith in
+      let last : r - suc q < r = omega arith in
+      (first, last, d (r - suc q) first last))
 
 -- ---- row by row from the last, against the order of document 01
 -- Row i at stage r - 1 - l, tested where document 01 takes it; and its stages.
@@ -151,7 +84,7 @@ module _ (r : ℕ) (g f : ℕ → ℕ → Float) where
         ap (λ (row : ℕ → Float). row j) (between-in (suc i) r (upDone r g f r) f (r - suc q) (omega arith) (omega arith)) ∙ row-done (r - suc q) j q (omega arith) (omega arith)
 
     climbed-up : (j q : ℕ) → j < r → q ≤ r - suc i → climbed r g later i q j ≡ upDone r g f q i j
-    unfolding climbed plusMultiple upDone later
+    unfolding staged plusMultiple upDone later
     climbed-up j zero n m = ap (λ (row : ℕ → Float). row j) (between-low (suc i) r (upDone r g f r) f i (omega arith))
     climbed-up j (suc q) n m =
         step-same (climbed-up j q n (omega arith)) refl (later-row j q m)
@@ -161,9 +94,9 @@ module _ (r : ℕ) (g f : ℕ → ℕ → Float) where
     climbed-done j n = climbed-up j (r - suc i) n (le-refl (r - suc i)) ∙ sym (row-done i j (r - suc i) (omega arith) (omega arith))
 
     climb-test-up : climbInRange r g later i ≡ upRowInRange r g f i
-    unfolding climbInRange stageTest plusMultipleInRange rowStageInRange upRowInRange
+    unfolding stagedInRange plusMultipleInRange rowStageInRange upRowInRange
     climb-test-up =
-        all-same (stageTest r g later i) (rowStageInRange r g f i) 0 (r - suc i) (λ q _ m.
+        all-same (λ q. all (plusMultipleInRange (g i (r - suc q)) (climbed r g later i q) (later (r - suc q))) 0 r) (rowStageInRange r g f i) 0 (r - suc i) (λ q _ m.
         let k = r - suc q in
         all-same (plusMultipleInRange (g i k) (climbed r g later i q) (later k)) (plusMultipleInRange (g i k) (upDone r g f q i) (upDone r g f q k)) 0 r (λ j _ n.
         step-test-same (climbed-up j q (omega arith) (omega arith)) refl (later-row j q (omega arith))))

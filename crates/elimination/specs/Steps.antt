@@ -1,6 +1,6 @@
 -- What the functions do to a working table f: the steps of `definitions`, with the loops' bounds as parameters.
 use mathlib.Core.Path.{_≡_}
-use Prim.Native.Nat.{ℕ, zero, suc, _-_}
+use Prim.Native.Nat.{ℕ, zero, suc, _-_, _≤_, _<_}
 use mathlib.Core.Bool.{Bool, _&&_, _||_, cond}
 use lib.Dec.{eqb}
 use lib.Ieee.{Float}
@@ -86,6 +86,9 @@ rowMultipliersInRange r f i = all (λ k. overPivotInRange f k i) (suc i) (r - su
 unfoldable pub identityRow : ℕ → ℕ → Float
 identityRow i j = cond (eqb i j) 1·0 0·0
 
+abbrev pub IsIdentity : ℕ → (ℕ → ℕ → Float) → Type 0
+IsIdentity r f = (i j : ℕ) → i < r → j < r → f i j ≡ cond (eqb i j) 1·0 0·0
+
 unfoldable pub identityRows : ℕ → ℕ → (ℕ → ℕ → Float) → ℕ → ℕ → Float
 identityRows r hi f = between 0 hi (λ i. between 0 r (identityRow i) (f i)) f
 
@@ -96,6 +99,14 @@ rowsAdded k lo hi c g f = between lo hi (λ i. between 0 c (plusMultiple (g i k)
 unfoldable pub rowsAddedInRange : ℕ → ℕ → ℕ → ℕ → (ℕ → ℕ → Float) → (ℕ → ℕ → Float) → Bool
 rowsAddedInRange k lo hi c g f = all (λ i. all (plusMultipleInRange (g i k) (f i) (f k)) 0 c) lo (hi - lo)
 
+-- One row i alone after q stages, which add the rows κ 0, κ 1 and so on as they stand in f; and whether n such stages are in range, stage q in the first w q columns.
+unfoldable pub staged : (ℕ → ℕ) → (ℕ → ℕ → Float) → (ℕ → ℕ → Float) → ℕ → ℕ → ℕ → Float
+staged κ g f i zero = f i
+staged κ g f i (suc q) = plusMultiple (g i (κ q)) (staged κ g f i q) (f (κ q))
+
+unfoldable pub stagedInRange : (ℕ → ℕ) → (ℕ → ℕ) → (ℕ → ℕ → Float) → (ℕ → ℕ → Float) → ℕ → ℕ → Bool
+stagedInRange κ w g f i n = all (λ q. all (plusMultipleInRange (g i (κ q)) (staged κ g f i q) (f (κ q))) 0 (w q)) 0 n
+
 -- The downward stages before k,
 unfoldable pub downDone : ℕ → (ℕ → ℕ → Float) → (ℕ → ℕ → Float) → ℕ → ℕ → ℕ → Float
 downDone r g f zero = f
@@ -103,6 +114,17 @@ downDone r g f (suc k) = rowsAdded k (suc k) r (suc k) g (downDone r g f k)
 
 unfoldable pub downInRange : ℕ → (ℕ → ℕ → Float) → (ℕ → ℕ → Float) → ℕ → Bool
 downInRange r g f k = all (λ l. rowsAddedInRange l (suc l) r (suc l) g (downDone r g f l)) 0 k
+
+-- the same for one row i alone, in all columns, where the rows before it are done,
+abbrev pub descended : (ℕ → ℕ → Float) → (ℕ → ℕ → Float) → ℕ → ℕ → ℕ → Float
+descended g f i = staged (λ q. q) g f i
+
+abbrev pub descendInRange : (ℕ → ℕ → Float) → (ℕ → ℕ → Float) → ℕ → Bool
+descendInRange g f i = stagedInRange (λ q. q) suc g f i i
+
+-- where its stages before c change nothing in column c, for the columns from lo up to hi,
+abbrev pub Skips : (ℕ → ℕ → Float) → (ℕ → ℕ → Float) → ℕ → ℕ → ℕ → Type 0
+Skips g f i lo hi = (q c : ℕ) → q ≤ i → q ≤ c → lo ≤ c → c < hi → descended g f i q c ≡ f i c
 
 -- the first q upward stages,
 unfoldable pub upDone : ℕ → (ℕ → ℕ → Float) → (ℕ → ℕ → Float) → ℕ → ℕ → ℕ → Float
@@ -112,13 +134,12 @@ upDone r g f (suc q) = let k = r - suc q in rowsAdded k 0 k r g (upDone r g f q)
 unfoldable pub upInRange : ℕ → (ℕ → ℕ → Float) → (ℕ → ℕ → Float) → ℕ → Bool
 upInRange r g f q = all (λ l. let k = r - suc l in rowsAddedInRange k 0 k r g (upDone r g f l)) 0 q
 
--- the same for one row i alone, q stages of it, where the rows after it are done,
-unfoldable pub climbed : ℕ → (ℕ → ℕ → Float) → (ℕ → ℕ → Float) → ℕ → ℕ → ℕ → Float
-climbed r g f i zero = f i
-climbed r g f i (suc q) = let k = r - suc q in plusMultiple (g i k) (climbed r g f i q) (f k)
+-- the same for one row i alone, where the rows after it are done,
+abbrev pub climbed : ℕ → (ℕ → ℕ → Float) → (ℕ → ℕ → Float) → ℕ → ℕ → ℕ → Float
+climbed r g f i = staged (λ q. r - suc q) g f i
 
-unfoldable pub climbInRange : ℕ → (ℕ → ℕ → Float) → (ℕ → ℕ → Float) → ℕ → Bool
-climbInRange r g f i = all (λ q. let k = r - suc q in all (plusMultipleInRange (g i k) (climbed r g f i q) (f k)) 0 r) 0 (r - suc i)
+abbrev pub climbInRange : ℕ → (ℕ → ℕ → Float) → (ℕ → ℕ → Float) → ℕ → Bool
+climbInRange r g f i = stagedInRange (λ q. r - suc q) (λ q. r) g f i (r - suc i)
 
 -- and the last division, in the rows before hi.
 unfoldable pub dividedRows : ℕ → ℕ → (ℕ → ℕ → Float) → (ℕ → ℕ → Float) → ℕ → ℕ → Float

@@ -38,6 +38,10 @@ FiniteRow c own = (j : ℕ) → j < c → T (finite (own j))
 abbrev pub FiniteTable : ℕ → (ℕ → ℕ → Float) → Type 0
 FiniteTable r f = (i : ℕ) → i < r → FiniteRow r (f i)
 
+-- Every multiplier below the diagonal finite.
+abbrev pub FiniteBelow : ℕ → (ℕ → ℕ → Float) → Type 0
+FiniteBelow r g = (k i : ℕ) → k < i → i < r → T (finite (g i k))
+
 -- A pivot's test: finite, where any stage follows or went before.
 abbrev pub pivotTested : ℕ → Float → Bool
 pivotTested r p = leb r 1 || finite p

@@ -38,7 +38,7 @@ pub fn add_to_rows(r: usize, k: usize, lo: f64, t: &[f64; 1024], b: &mut [f64; 1
     ok
 }
 
-// The downward stages, rising. Row k has nothing after column k yet.
+// The downward stages, rising, for any multipliers. Row k has nothing after column k yet.
 pub fn down(r: usize, t: &[f64; 1024], b: &mut [f64; 1024]) -> bool
     requires { ⌜ (r ≤ 32) × (length (now t) ≡ 1024) × (length (now b) ≡ 1024) ⌝ }
     ensures { λ ok. ⌜ Finds ok (downInRange r (table32 (now (t .entry))) (table32 (now (b .entry))) r) (FiniteTable r (downDone r (table32 (now (t .entry))) (table32 (now (b .entry))) r)) (now (b .exit)) (downDone r (table32 (now (t .entry))) (table32 (now (b .entry))) r) ⌝ }

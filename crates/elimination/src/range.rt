@@ -9,7 +9,7 @@ ghost use lib.ListN.{length};
 ghost use lib.Ieee.{Float, lt};
 ghost use Rattle.definitions.specs.Numbers.{_⊗_, _⊘_, smallest, all};
 ghost use Rattle.elimination.specs.Places.{table32};
-ghost use Rattle.elimination.specs.Steps.{plusMultiple, plusMultipleInRange, timesInRange, rowTest, climbed, climbInRange};
+ghost use Rattle.elimination.specs.Steps.{plusMultiple, plusMultipleInRange, timesInRange, rowTest, climbed, climbInRange, descended, descendInRange};
 ghost use Rattle.elimination.specs.Told.{Told, pivotTested, RowFinite, FiniteRow, Covering, Quick, QuickRow, productsAt};
 
 // Whether m times the bound lo is above 2^-1022.
@@ -87,13 +87,13 @@ pub fn multiple_told(k: usize, m: f64, lo: f64, c: usize, b: &[f64; 1024]) -> bo
     products_in_range(k, m, 0, c, b)
 }
 
-// The quick test of all upward multipliers of row i.
-pub fn climb_quick(r: usize, i: usize, lo: f64, t: &[f64; 1024]) -> bool
-    requires { ⌜ (i < r) × (r ≤ 32) × (length (now t) ≡ 1024) ⌝ }
-    ensures { λ ok. ⌜ QuickRow lo (table32 (now (t .entry)) i) (suc i) r ok ⌝ }
+// The quick test of the multipliers of row i in the columns from `from` up to `to`.
+pub fn row_quick(i: usize, from: usize, to: usize, lo: f64, t: &[f64; 1024]) -> bool
+    requires { ⌜ (i < 32) × (from ≤ to) × (to ≤ 32) × (length (now t) ≡ 1024) ⌝ }
+    ensures { λ ok. ⌜ QuickRow lo (table32 (now (t .entry)) i) from to ok ⌝ }
 {
     let mut ok = true;
-    for k in i + 1..r {
+    for k in from..to {
         let m = row::get(i, k, t);
         let step = quick(m, lo);
         ok = ok & step;
@@ -120,8 +120,33 @@ pub fn climb_told(r: usize, i: usize, lo: f64, t: &[f64; 1024], b: &[f64; 1024])
     requires { ⌜ (i < r) × (r ≤ 32) × (length (now t) ≡ 1024) × (length (now b) ≡ 1024) × ((k : ℕ) → i < k → k < r → Covering lo (table32 (now b) k) 0 r) ⌝ }
     ensures { λ ok. ⌜ Told ok (climbInRange r (table32 (now (t .entry))) (table32 (now (b .entry))) i) (FiniteRow r (climbed r (table32 (now (t .entry))) (table32 (now (b .entry))) i (r - suc i))) ⌝ }
 {
-    if climb_quick(r, i, lo, t) {
+    if row_quick(i, i + 1, r, lo, t) {
         return true;
     }
     climb_products(r, i, t, b)
+}
+
+// The products of the downward stages of row i, one by one.
+pub fn descend_products(i: usize, t: &[f64; 1024], b: &[f64; 1024]) -> bool
+    requires { ⌜ (i < 32) × (length (now t) ≡ 1024) × (length (now b) ≡ 1024) ⌝ }
+    ensures { λ ok. ⌜ ok ≡ all (λ k. productsAt (suc k) (table32 (now (t .entry)) i) (table32 (now (b .entry))) k) 0 i ⌝ }
+{
+    let mut ok = true;
+    for k in 0..i {
+        let m = row::get(i, k, t);
+        let products = products_in_range(k, m, 0, k + 1, b);
+        ok = ok & products;
+    }
+    ok
+}
+
+// The downward stages of row i: lo bounds the rows before it up to the diagonal.
+pub fn descend_told(i: usize, lo: f64, t: &[f64; 1024], b: &[f64; 1024]) -> bool
+    requires { ⌜ (i < 32) × (length (now t) ≡ 1024) × (length (now b) ≡ 1024) × ((k : ℕ) → k < i → Covering lo (table32 (now b) k) 0 (suc k)) ⌝ }
+    ensures { λ ok. ⌜ Told ok (descendInRange (table32 (now (t .entry))) (table32 (now (b .entry))) i) (FiniteRow i (descended (table32 (now (t .entry))) (table32 (now (b .entry))) i i)) ⌝ }
+{
+    if row_quick(i, 0, i, lo, t) {
+        return true;
+    }
+    descend_products(i, t, b)
 }

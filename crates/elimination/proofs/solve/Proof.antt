@@ -1,6 +1,7 @@
 -- `elimination::solve` meets its contract. Assumes nothing.
 use borrow.Author.Needs.{needs}
-use Rattle.elimination.proofs.EngineLaws.{solve-gives}
+use Rattle.elimination.specs.Places.{table32}
+use Rattle.elimination.proofs.EngineLaws.{identity-holds, multipliers-finite, solve-gives}
 use Rattle.elimination.proofs.solve.Statement.{statement}
 use Rattle.elimination.proofs.solve.Tie as tie
 
@@ -10,8 +11,14 @@ shared-requires c κs = search needs
 identity-requires : tie.Need-identity-requires
 identity-requires c κs = search needs
 
-down-requires : tie.Need-down-requires
-down-requires c κs = search needs
+downward-columns-requires : tie.Need-downward-columns-requires
+downward-columns-requires c κs =
+    let one = c .before .before in
+    let first = one .before .before in
+    let s = first .before .before in
+    let done = first .shared .ensures in
+    let h = one .identity .ensures in
+    (s .pre .0, done .long, h .long, identity-holds (s .args .r) (table32 (s .args .b .now)) h, multipliers-finite (s .args .r) (s .pre .0) (s .args .t .now) (first .shared .last .1 .0) (s .args .b .now) done)
 
 up-requires : tie.Need-up-requires
 up-requires c κs = search needs
@@ -26,7 +33,7 @@ returns c =
     let one = down .before .before .before in
     let first = one .before .before in
     let s = first .before .before in
-    solve-gives (s .args .r) (s .pre .0) (s .args .t .now) (first .shared .last .1 .0) (s .args .b .now) (first .shared .ensures) (one .identity .ensures) (down .down .ensures) (up .up .ensures) (c .quotients .ensures)
+    solve-gives (s .args .r) (s .pre .0) (s .args .t .now) (first .shared .last .1 .0) (s .args .b .now) (first .shared .ensures) (one .identity .ensures) (down .downward-columns .ensures) (up .up .ensures) (c .quotients .ensures)
 
 pub solve-spec : {M : Type 1} → statement M
 solve-spec =
@@ -34,7 +41,7 @@ solve-spec =
     (tie.spec
     shared-requires
     identity-requires
-    down-requires
+    downward-columns-requires
     up-requires
     quotients-requires
     returns)

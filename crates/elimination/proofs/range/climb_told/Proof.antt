@@ -1,17 +1,21 @@
 -- `elimination::range::climb_told` meets its contract: the quick test, or the products one by one. Assumes nothing.
+use native.Mathlib.Numerals.{add-one}
 use borrow.Author.Needs.{needs}
 use Rattle.elimination.specs.Places.{table32}
 use Rattle.elimination.proofs.UpwardLaws.{climb-by-products, climb-by-bound}
 use Rattle.elimination.proofs.range.climb_told.Statement.{statement}
 use Rattle.elimination.proofs.range.climb_told.Tie as tie
 
-climb-quick-requires : tie.Need-climb-quick-requires
-climb-quick-requires c κs = search needs
+add-row-quick : tie.Need-add-row-quick
+add-row-quick c = search needs
+
+row-quick-requires : tie.Need-row-quick-requires
+row-quick-requires c κs = search needs
 
 returns : tie.Need-returns
 returns c =
     let s = c .before .before in
-    climb-by-bound (s .args .r) (table32 (s .args .t .now)) (table32 (s .args .b .now)) (s .args .i) (c .before .climb-quick .ensures) (c .if1 .taken) (s .pre .4)
+    climb-by-bound (s .args .r) (table32 (s .args .t .now)) (table32 (s .args .b .now)) (s .args .i) (rw (add-one (s .args .i)) at (c .before .row-quick .ensures)) (c .if1 .taken) (s .pre .4)
 
 climb-products-requires : tie.Need-climb-products-requires
 climb-products-requires c κs = search needs
@@ -23,4 +27,4 @@ returns-2 c =
 
 pub climb-told-spec : {M : Type 1} → statement M
 climb-told-spec =
-    tie.close (tie.spec climb-quick-requires returns climb-products-requires returns-2)
+    tie.close (tie.spec add-row-quick row-quick-requires returns climb-products-requires returns-2)

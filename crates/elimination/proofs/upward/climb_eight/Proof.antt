@@ -6,7 +6,8 @@ use borrow.Author.Needs.{needs}
 use lib.ListN.{length}
 use Rattle.elimination.specs.Places.{table32}
 use Rattle.elimination.proofs.Loops.{along-begins, along-turns, along-next}
-use Rattle.elimination.proofs.UpwardLaws.{Climbs, climb-begins, climb-turns, climb-ends}
+use Rattle.elimination.proofs.RowStages.{staged-begins, staged-ends}
+use Rattle.elimination.proofs.UpwardLaws.{Climbs, climb-turns}
 use Rattle.elimination.proofs.upward.climb_eight.Statement.{statement}
 use Rattle.elimination.proofs.upward.climb_eight.Tie as tie
 
@@ -86,14 +87,14 @@ loop-holds c =
     let a2 = a3 .before .before in
     let a1 = a2 .before .before in (
       search needs,
-      climb-begins (a1 .get .ensures),
-      climb-begins (a2 .get2 .ensures),
-      climb-begins (a3 .get3 .ensures),
-      climb-begins (a4 .get4 .ensures),
-      climb-begins (a5 .get5 .ensures),
-      climb-begins (a6 .get6 .ensures),
-      climb-begins (a7 .get7 .ensures),
-      climb-begins (c .get8 .ensures),
+      staged-begins (a1 .get .ensures),
+      staged-begins (a2 .get2 .ensures),
+      staged-begins (a3 .get3 .ensures),
+      staged-begins (a4 .get4 .ensures),
+      staged-begins (a5 .get5 .ensures),
+      staged-begins (a6 .get6 .ensures),
+      staged-begins (a7 .get7 .ensures),
+      staged-begins (c .get8 .ensures),
     )
 
 sub-k : tie.Need-sub-k Inv-loop μ-loop
@@ -168,16 +169,17 @@ loop-again c =
     let first = a1 .before .before in
     let m = first .get9 .ensures in
     let l = first .before .before in
+    let r = l .before .before .before .before .before .before .before .before .before .before .before .before .before .before .before .before .before .args .r in
     let v = l .loop .inv in (
       (v .0 .0, v .0 .1, v .0 .2, v .0 .3, v .0 .4, omega (arith, first .before .loop-test .taken)),
-      climb-turns (v .1) m (a1 .get10 .ensures),
-      climb-turns (v .2) m (a2 .get11 .ensures),
-      climb-turns (v .3) m (a3 .get12 .ensures),
-      climb-turns (v .4) m (a4 .get13 .ensures),
-      climb-turns (v .5) m (a5 .get14 .ensures),
-      climb-turns (v .6) m (a6 .get15 .ensures),
-      climb-turns (v .7) m (a7 .get16 .ensures),
-      climb-turns (v .8) m (c .get17 .ensures),
+      climb-turns r (v .1) m (a1 .get10 .ensures),
+      climb-turns r (v .2) m (a2 .get11 .ensures),
+      climb-turns r (v .3) m (a3 .get12 .ensures),
+      climb-turns r (v .4) m (a4 .get13 .ensures),
+      climb-turns r (v .5) m (a5 .get14 .ensures),
+      climb-turns r (v .6) m (a6 .get15 .ensures),
+      climb-turns r (v .7) m (a7 .get16 .ensures),
+      climb-turns r (v .8) m (c .get17 .ensures),
     )
 
 put-requires : tie.Need-put-requires Inv-loop μ-loop
@@ -249,14 +251,14 @@ returns c =
     (along-next 1
     (along-turns
     (along-begins refl (s .pre .4))
-    (b1 .put .ensures) (climb-ends (v .1) low high))
-    (b2 .put2 .ensures) (climb-ends (v .2) low high))
-    (b3 .put3 .ensures) (climb-ends (v .3) low high))
-    (b4 .put4 .ensures) (climb-ends (v .4) low high))
-    (b5 .put5 .ensures) (climb-ends (v .5) low high))
-    (b6 .put6 .ensures) (climb-ends (v .6) low high))
-    (b7 .put7 .ensures) (climb-ends (v .7) low high))
-    (c .put8 .ensures) (climb-ends (v .8) low high)) .holds
+    (b1 .put .ensures) (staged-ends (v .1) low high))
+    (b2 .put2 .ensures) (staged-ends (v .2) low high))
+    (b3 .put3 .ensures) (staged-ends (v .3) low high))
+    (b4 .put4 .ensures) (staged-ends (v .4) low high))
+    (b5 .put5 .ensures) (staged-ends (v .5) low high))
+    (b6 .put6 .ensures) (staged-ends (v .6) low high))
+    (b7 .put7 .ensures) (staged-ends (v .7) low high))
+    (c .put8 .ensures) (staged-ends (v .8) low high)) .holds
 
 pub climb-eight-spec : {M : Type 1} → statement M
 climb-eight-spec =

@@ -5,7 +5,8 @@ use native.Mathlib.Omega.{arith}
 use borrow.Author.Needs.{needs}
 use Rattle.elimination.specs.Places.{table32}
 use Rattle.elimination.proofs.Loops.{along-begins, along-turns, along-next}
-use Rattle.elimination.proofs.UpwardLaws.{Climbs, climb-begins, climb-turns, climb-ends}
+use Rattle.elimination.proofs.RowStages.{staged-begins, staged-ends}
+use Rattle.elimination.proofs.UpwardLaws.{Climbs, climb-turns}
 use Rattle.elimination.proofs.upward.climb_four.Statement.{statement}
 use Rattle.elimination.proofs.upward.climb_four.Tie as tie
 
@@ -53,10 +54,10 @@ loop-holds c =
     let a2 = a3 .before .before in
     let a1 = a2 .before .before in (
       search needs,
-      climb-begins (a1 .get .ensures),
-      climb-begins (a2 .get2 .ensures),
-      climb-begins (a3 .get3 .ensures),
-      climb-begins (c .get4 .ensures),
+      staged-begins (a1 .get .ensures),
+      staged-begins (a2 .get2 .ensures),
+      staged-begins (a3 .get3 .ensures),
+      staged-begins (c .get4 .ensures),
     )
 
 sub-k : tie.Need-sub-k Inv-loop μ-loop
@@ -103,12 +104,13 @@ loop-again c =
     let first = a1 .before .before in
     let m = first .get5 .ensures in
     let l = first .before .before in
+    let r = l .before .before .before .before .before .before .before .before .before .args .r in
     let v = l .loop .inv in (
       omega (arith, first .before .loop-test .taken),
-      climb-turns (v .1) m (a1 .get6 .ensures),
-      climb-turns (v .2) m (a2 .get7 .ensures),
-      climb-turns (v .3) m (a3 .get8 .ensures),
-      climb-turns (v .4) m (c .get9 .ensures),
+      climb-turns r (v .1) m (a1 .get6 .ensures),
+      climb-turns r (v .2) m (a2 .get7 .ensures),
+      climb-turns r (v .3) m (a3 .get8 .ensures),
+      climb-turns r (v .4) m (c .get9 .ensures),
     )
 
 put-requires : tie.Need-put-requires Inv-loop μ-loop
@@ -148,10 +150,10 @@ returns c =
     (along-next 1
     (along-turns
     (along-begins refl (s .pre .4))
-    (b1 .put .ensures) (climb-ends (v .1) low high))
-    (b2 .put2 .ensures) (climb-ends (v .2) low high))
-    (b3 .put3 .ensures) (climb-ends (v .3) low high))
-    (c .put4 .ensures) (climb-ends (v .4) low high)) .holds
+    (b1 .put .ensures) (staged-ends (v .1) low high))
+    (b2 .put2 .ensures) (staged-ends (v .2) low high))
+    (b3 .put3 .ensures) (staged-ends (v .3) low high))
+    (c .put4 .ensures) (staged-ends (v .4) low high)) .holds
 
 pub climb-four-spec : {M : Type 1} → statement M
 climb-four-spec =

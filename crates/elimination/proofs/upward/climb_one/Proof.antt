@@ -5,7 +5,8 @@ use native.Mathlib.Omega.{arith}
 use borrow.Author.Needs.{needs}
 use Rattle.elimination.specs.Places.{table32}
 use Rattle.elimination.proofs.Loops.{along-begins, along-turns}
-use Rattle.elimination.proofs.UpwardLaws.{Climbs, climb-begins, climb-turns, climb-ends}
+use Rattle.elimination.proofs.RowStages.{staged-begins, staged-ends}
+use Rattle.elimination.proofs.UpwardLaws.{Climbs, climb-turns}
 use Rattle.elimination.proofs.upward.climb_one.Statement.{statement}
 use Rattle.elimination.proofs.upward.climb_one.Tie as tie
 
@@ -25,7 +26,7 @@ sub-q-end-2 : tie.Need-sub-q-end-2 Inv-loop μ-loop
 sub-q-end-2 c = search needs
 
 loop-holds : tie.Need-loop-holds Inv-loop μ-loop
-loop-holds c = (search needs, climb-begins (c .get .ensures))
+loop-holds c = (search needs, staged-begins (c .get .ensures))
 
 sub-k : tie.Need-sub-k Inv-loop μ-loop
 sub-k c = search needs
@@ -46,7 +47,9 @@ loop-less : tie.Need-loop-less Inv-loop μ-loop
 loop-less c = search needs
 
 loop-again : tie.Need-loop-again Inv-loop μ-loop
-loop-again c = (omega arith, climb-turns (c .before .before .before .before .loop .inv .1) (c .before .before .get2 .ensures) (c .get3 .ensures))
+loop-again c =
+    let l = c .before .before .before .before in
+    (omega arith, climb-turns (l .before .before .before .args .r) (l .loop .inv .1) (c .before .before .get2 .ensures) (c .get3 .ensures))
 
 put-requires : tie.Need-put-requires Inv-loop μ-loop
 put-requires c κs = search needs
@@ -55,7 +58,7 @@ returns : tie.Need-returns Inv-loop μ-loop
 returns c =
     let l = c .before .before .before in
     let s = l .before .before .before in
-    along-turns (along-begins refl (s .pre .4)) (c .put .ensures) (climb-ends (l .loop .inv .1) (l .loop .inv .0) (omega arith)) .holds
+    along-turns (along-begins refl (s .pre .4)) (c .put .ensures) (staged-ends (l .loop .inv .1) (l .loop .inv .0) (omega arith)) .holds
 
 pub climb-one-spec : {M : Type 1} → statement M
 climb-one-spec =

@@ -1,6 +1,6 @@
--- `elimination::range::climb_quick` meets its contract: at column k the multipliers before it are tested. Assumes nothing.
-use Prim.Native.Nat.{ℕ, _≤_, _<_, _-_, suc}
-use native.Mathlib.Numerals.{add-one}
+-- `elimination::range::row_quick` meets its contract: at column k the multipliers before it are tested. Assumes nothing.
+use mathlib.Core.Path.{refl}
+use Prim.Native.Nat.{ℕ, _≤_, _<_, _-_}
 use native.Mathlib.Omega.{arith}
 use lib.Dec.{T}
 use lib.Ieee.{binary64, fits}
@@ -9,21 +9,18 @@ use borrow.Author.Needs.{needs}
 use Rattle.elimination.specs.Places.{table32}
 use Rattle.elimination.specs.Told.{quickAt}
 use Rattle.elimination.proofs.Flags.{Gathered, gathered-begins, gathered-turns, gathered-ends}
-use Rattle.elimination.proofs.UpwardLaws.{quick-at}
-use Rattle.elimination.proofs.range.climb_quick.Statement.{statement}
-use Rattle.elimination.proofs.range.climb_quick.Tie as tie
+use Rattle.elimination.proofs.Multiples.{quick-at}
+use Rattle.elimination.proofs.range.row_quick.Statement.{statement}
+use Rattle.elimination.proofs.range.row_quick.Tie as tie
 
 abbrev Inv-loop : tie.InvT-loop
-Inv-loop r i lo t ok₀ k₀ ok k = (k ≤ r) × Gathered (quickAt lo (table32 t i)) (suc i) k ok × ((a : ℕ) → a < k → suc i ≤ a → T (fits binary64 (table32 t i a)))
+Inv-loop i from to lo t ok₀ k₀ ok k = (k ≤ to) × Gathered (quickAt lo (table32 t i)) from k ok × ((a : ℕ) → a < k → from ≤ a → T (fits binary64 (table32 t i a)))
 
 abbrev μ-loop : tie.MeasureT-loop
-μ-loop r i lo t ok₀ k₀ ok k = r - k
-
-add-k : tie.Need-add-k Inv-loop μ-loop
-add-k c = search needs
+μ-loop i from to lo t ok₀ k₀ ok k = to - k
 
 loop-holds : tie.Need-loop-holds Inv-loop μ-loop
-loop-holds c = (search needs, gathered-begins (add-one (c .args .i)), λ a l m. let z : ⊥ = omega arith in absurd z)
+loop-holds c = (search needs, gathered-begins refl, λ a l m. let z : ⊥ = omega arith in absurd z)
 
 get-requires : tie.Need-get-requires Inv-loop μ-loop
 get-requires c κs = search needs
@@ -31,8 +28,8 @@ get-requires c κs = search needs
 quick-requires : tie.Need-quick-requires Inv-loop μ-loop
 quick-requires c κs = search needs
 
-add-k-2 : tie.Need-add-k-2 Inv-loop μ-loop
-add-k-2 c = search needs
+add-k : tie.Need-add-k Inv-loop μ-loop
+add-k c = search needs
 
 loop-less : tie.Need-loop-less Inv-loop μ-loop
 loop-less c = search needs
@@ -47,17 +44,16 @@ loop-again c =
 returns : tie.Need-returns Inv-loop μ-loop
 returns c = let v = c .before .loop .inv in record { is = gathered-ends (v .1) (omega arith) (omega arith); held = λ k l m. v .2 k (omega arith) l }
 
-pub climb-quick-spec : {M : Type 1} → statement M
-climb-quick-spec =
+pub row-quick-spec : {M : Type 1} → statement M
+row-quick-spec =
     tie.close
     (tie.spec
     Inv-loop
     μ-loop
-    add-k
     loop-holds
     get-requires
     quick-requires
-    add-k-2
+    add-k
     loop-less
     loop-again
     returns)
