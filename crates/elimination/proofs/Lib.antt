@@ -6,6 +6,7 @@ pub mod Same
 pub mod Cases
 pub mod Places
 pub mod Operators
+pub mod Vectors
 pub mod Loops
 pub mod Flags
 pub mod Exchange
@@ -18,6 +19,7 @@ mod Quick
 mod Multiples
 mod RangeLaws
 mod DownwardLaws
+mod ByFours
 mod UpwardLaws
 mod ColumnLaws
 mod SharedLaws

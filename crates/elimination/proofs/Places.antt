@@ -15,7 +15,7 @@ use Rattle.elimination.proofs.Cases.{by-equal, by-order, and-false}
 use Rattle.elimination.proofs.Operators.{replace-same, replace-other}
 
 -- Inside a list the value beyond its end does not matter.
-any-default : {A : Type 0} (xs : List A) (i : ℕ) (d e : A) → i < length xs → getD xs i d ≡ getD xs i e
+pub any-default : {A : Type 0} (xs : List A) (i : ℕ) (d e : A) → i < length xs → getD xs i d ≡ getD xs i e
 any-default [] i d e h = let z : ⊥ = omega arith in absurd z
 any-default (x ∷ xs) zero d e h = refl
 any-default (x ∷ xs) (suc i) d e h = any-default xs i d e (le-of-suc-le-suc h)

@@ -10,6 +10,7 @@ pub mod least;
 pub mod range;
 pub mod row;
 pub mod upward;
+pub mod vector;
 
 ghost use mathlib.Core.Path.{_≡_};
 ghost use Prim.Native.Nat.{_≤_};
