@@ -16,7 +16,7 @@ use Rattle.rounding.proofs.Finite.{sum-finite, quotient-finite}
 use Rattle.rounding.proofs.Sums.{total-in-range, range-last}
 use Rattle.elimination.specs.Places.{table32, systemIn, atStage, Holds, Gives}
 use Rattle.elimination.specs.Steps.{rowTest, stageDone, stagesDone, stagesInRange}
-use Rattle.elimination.specs.Told.{Told, RowFinite, StageFinite, StageFinds, pivotTested, stageTested}
+use Rattle.elimination.specs.Told.{Told, RowFinite, StageFinite, StageFinds, StagesFind, pivotTested, stageTested}
 use Rattle.elimination.proofs.Cases.{by-equal, by-order}
 use Rattle.elimination.proofs.Flags.{same-truth, both, both-left, both-right, each, every}
 use Rattle.elimination.proofs.Told.{ToldEach, told-same, told-begins, told-turns, told-ends}
@@ -215,9 +215,31 @@ module _ {r : ℕ} {f : ℕ → ℕ → Float} {k : ℕ} {ok : Bool} {xs : List 
         tested = λ t l m. by-equal l k (λ e. rw e (s .tested (both-right ok now t))) (λ n. h .tested (both-left ok now t) l (omega arith));
       }
 
-  pub stages-end : k ≤ r → r ≤ k → Gives ok (stagesInRange r f r) xs (stagesDone r f r)
-  stages-end a b =
+  pub stages-found : {hi : ℕ} → k ≤ hi → hi ≤ k → StagesFind r hi f ok xs
+  stages-found {hi} a b =
       record {
-        range = told-agrees r f (rw (sub-zero r) at (told-ends (h .told) a b)) (λ t k l. h .tested t k (omega arith));
+        told = rw (sub-zero hi) at (told-ends (h .told) a b);
+        tested = λ t l m. h .tested t l (omega arith);
         holds = rw (le-antisymm a b) at (h .holds);
       }
+
+  pub stages-end : k ≤ r → r ≤ k → Gives ok (stagesInRange r f r) xs (stagesDone r f r)
+  stages-end a b =
+      let s = stages-found a b in
+      record { range = told-agrees r f (s .told) (s .tested); holds = s .holds }
+
+-- A loop that goes on after the first k stages.
+pub stages-resume : {r k : ℕ} {f : ℕ → ℕ → Float} {ok : Bool} {xs : List Float} → StagesFind r k f ok xs → StagesTold r f k ok xs
+stages-resume {r} {k} {f} g =
+    record {
+      holds = g .holds;
+      told = record {
+        from = omega arith;
+        passes = λ e. g .told .passes (every test 0 k (λ i l m. e i l (omega arith)));
+        tells = λ e t i l m. each test 0 k i (g .told .tells e t) l (omega arith);
+      };
+      tested = g .tested;
+    }
+  where
+    test : ℕ → Bool
+    test l = stageTested r l (stagesDone r f l)

@@ -19,6 +19,7 @@ mod Quick
 mod Multiples
 mod RangeLaws
 mod DownwardLaws
+mod ByFours
 mod RowStages
 mod UpwardLaws
 mod DescentLaws

@@ -8,7 +8,7 @@ use lib.ListN.{length}
 use lib.Ieee.{Float}
 use Rattle.elimination.specs.Places.{table32, Holds}
 use Rattle.elimination.specs.Operators.{replace, between, put, span}
-use Rattle.elimination.proofs.Operators.{between-none, between-step, between-past, between-out, span-none, span-step, span-joins, span-past, span-row}
+use Rattle.elimination.proofs.Operators.{between-none, between-step, between-past, between-out, between-joins, span-none, span-step, span-joins, span-past, span-row}
 
 -- Along row i from lo: the places before j are done. They become g, and f was the table at the start.
 pub record Along (i lo : ℕ) (g : ℕ → Float) (f : ℕ → ℕ → Float) (xs : List Float) (j : ℕ) : Type 0 where
@@ -66,6 +66,16 @@ module _ {lo : ℕ} {g f : ℕ → ℕ → Float} {xs : List Float} {i : ℕ} (h
   pub down-turns : {ys : List Float} {row : ℕ → Float} → Holds ys (replace i row (table32 xs)) → row ≡ g i → Down lo g f ys (i + 1)
   down-turns k e =
       record { from = omega arith; holds = record { long = k .long; is = k .is ∙ rw (e, h .holds .is) (between-step lo i g f (h .from)) } }
+
+  -- A row of which one place changes.
+  pub down-puts : (j : ℕ) {x y : Float} {ys : List Float} → Holds ys (put i j x (table32 xs)) → x ≡ y → replace j y (f i) ≡ g i → Down lo g f ys (i + 1)
+  unfolding put
+  down-puts j {x} k q e = down-turns {row = replace j x (table32 xs i)} k (rw (q, down-due i (le-refl i)) e)
+
+  -- Several rows at once.
+  pub down-joins : {hi : ℕ} {e : ℕ → ℕ → Float} {ys : List Float} → Holds ys (between i hi e (table32 xs)) → i ≤ hi → ((a : ℕ) → i ≤ a → a < hi → e a ≡ g a) → Down lo g f ys hi
+  down-joins {hi} {e} k l same =
+      record { from = omega (arith, h .from); holds = record { long = k .long; is = k .is ∙ rw (h .holds .is) (between-joins lo i hi g e f (h .from) l same) } }
 
   pub down-ends : {hi : ℕ} → i ≤ hi → hi ≤ i → Holds xs (between lo hi g f)
   down-ends l m = rw (le-antisymm l m) at (h .holds)

@@ -92,6 +92,27 @@ module _ {A : Type 0} where
       (λ o. between-in lo mid g f a o n ∙ sym (between-in lo hi g f a o (omega arith)))
       (λ o. between-low lo mid g f a o ∙ sym (between-low lo hi g f a o))))
 
+  -- The same places again.
+  pub between-over : (lo hi : ℕ) (g h f : ℕ → A) → between lo hi g (between lo hi h f) ≡ between lo hi g f
+  between-over lo hi g h f = fun-ext (λ a. by-order lo a
+      (λ l. by-order hi a
+      (λ m. between-past lo hi g (between lo hi h f) a m ∙ between-past lo hi h f a m ∙ sym (between-past lo hi g f a m))
+      (λ m. between-in lo hi g (between lo hi h f) a l m ∙ sym (between-in lo hi g f a l m)))
+      (λ l. between-low lo hi g (between lo hi h f) a l ∙ between-low lo hi h f a l ∙ sym (between-low lo hi g f a l)))
+
+  -- A place before them.
+  pub between-before : (k : ℕ) (x : A) (lo hi : ℕ) (g f : ℕ → A) → k < lo → between lo hi g (replace k x f) ≡ replace k x (between lo hi g f)
+  between-before k x lo hi g f l = fun-ext (λ a. by-equal a k
+      (λ e. rw e (between-low lo hi g (replace k x f) k l ∙ replace-same k x f ∙ sym (replace-same k x (between lo hi g f))))
+      (λ n. other a n ∙ sym (replace-other k x (between lo hi g f) a n)))
+    where
+      other : (a : ℕ) → (a ≡ k → ⊥) → between lo hi g (replace k x f) a ≡ between lo hi g f a
+      other a n = by-order lo a
+          (λ p. by-order hi a
+          (λ q. between-past lo hi g (replace k x f) a q ∙ replace-other k x f a n ∙ sym (between-past lo hi g f a q))
+          (λ q. between-in lo hi g (replace k x f) a p q ∙ sym (between-in lo hi g f a p q)))
+          (λ p. between-low lo hi g (replace k x f) a p ∙ replace-other k x f a n ∙ sym (between-low lo hi g f a p))
+
 -- A place of a row that was replaced.
 pub put-replaced : (i j : ℕ) (x : Float) (row : ℕ → Float) (f : ℕ → ℕ → Float) → put i j x (replace i row f) ≡ replace i (replace j x row) f
 unfolding put

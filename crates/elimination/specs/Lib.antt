@@ -3,5 +3,6 @@ pub mod Operators
 pub mod Vectors
 pub mod Steps
 pub mod Told
+pub mod ByFours
 pub mod Four
 pub mod Contracts

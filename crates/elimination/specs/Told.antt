@@ -10,7 +10,7 @@ use Rattle.definitions.specs.Numbers.{_⊕_, _⊗_, _⊘_, smallest, finite, is
 use Rattle.definitions.specs.LeavingRates.{pivot}
 use Rattle.rounding.specs.Good.{Good, one·units}
 use Rattle.elimination.specs.Places.{Holds, systemIn}
-use Rattle.elimination.specs.Steps.{timesInRange, rowTest, stageDone}
+use Rattle.elimination.specs.Steps.{timesInRange, rowTest, stageDone, stagesDone}
 
 -- ok is true where the document's test is, and where the results named by F are finite it is true nowhere else.
 pub record Told (ok test : Bool) (F : Type 0) : Type 0 where
@@ -55,6 +55,12 @@ pub record StageFinds (r k : ℕ) (f : ℕ → ℕ → Float) (ok : Bool) (xs : 
   pub told : Told ok (stageTested r k f) (StageFinite r k (pivot r (systemIn f) k) f)
   pub tested : T ok → T (pivotTested r (pivot r (systemIn f) k))
   pub holds : Holds xs (stageDone r k f)
+
+-- A function that does the first k stages, and tells so of each.
+pub record StagesFind (r k : ℕ) (f : ℕ → ℕ → Float) (ok : Bool) (xs : List Float) : Type 0 where
+  pub told : Told ok (all (λ l. stageTested r l (stagesDone r f l)) 0 k) ((l : ℕ) → 0 ≤ l → l < k → StageFinite r l (pivot r (systemIn (stagesDone r f l)) l) (stagesDone r f l))
+  pub tested : T ok → (l : ℕ) → l < k → T (pivotTested r (pivot r (systemIn (stagesDone r f l)) l))
+  pub holds : Holds xs (stagesDone r f k)
 
 -- A bound is good and at most one.
 pub record Bound (lo : Float) : Type 0 where

@@ -7,15 +7,16 @@ use crate::range;
 use crate::row;
 use crate::vector;
 ghost use mathlib.Core.Path.{_≡_};
-ghost use Prim.Native.Nat.{ℕ, suc, _-_, _≤_, _<_};
+ghost use Prim.Native.Nat.{ℕ, suc, _+_, _-_, _≤_, _<_};
 ghost use lib.ListN.{length};
 ghost use Rattle.definitions.specs.Numbers.{all};
-ghost use Rattle.elimination.specs.Places.{table32, Gives};
+ghost use Rattle.elimination.specs.Places.{table32, Holds, Gives};
 ghost use Rattle.elimination.specs.Operators.{replace, between, span};
 ghost use Rattle.elimination.specs.Vectors.{vector, IsVector};
 ghost use Rattle.elimination.specs.Contracts.{Shared};
 ghost use Rattle.elimination.specs.Steps.{IsStage, rowTest, eliminatedRow, eliminatedRows, stagesDone, stagesInRange, diagonal, overPivot, upwardRows, rowMultipliersInRange};
-ghost use Rattle.elimination.specs.Told.{Finds, RowFinite, StageFinite, StageFinds, Covering};
+ghost use Rattle.elimination.specs.Told.{Finds, RowFinite, StageFinite, StageFinds, StagesFind, Covering};
+ghost use Rattle.elimination.specs.ByFours.{Part, Multiplied, summedRow, diagonalRow};
 
 // Stage k's running sum and pivot: s_k, and s_k with the sizes after the diagonal added, rising.
 pub fn begin(r: usize, k: usize, t: &[f64; 1024]) -> Stage
@@ -53,7 +54,8 @@ pub fn eliminate_row(
     ok
 }
 
-pub fn eliminate_rows(r: usize, k: usize, stage: Stage, lo: f64, t: &mut [f64; 1024]) -> bool
+// Stage k's rows, one by one.
+pub fn eliminate_singly(r: usize, k: usize, stage: Stage, lo: f64, t: &mut [f64; 1024]) -> bool
     requires { ⌜ (k < r) × (r ≤ 32) × (length (now t) ≡ 1024) × (stage .s ≡ table32 (now t) k k) × Covering lo (table32 (now t) k) k r ⌝ }
     ensures { λ ok. ⌜ Finds ok (all (λ i. rowTest r k i (stage .p) (table32 (now (t .entry)) i) (table32 (now (t .entry)) k)) (suc k) (r - suc k)) (StageFinite r k (stage .p) (table32 (now (t .entry)))) (now (t .exit)) (eliminatedRows r k (stage .s) (stage .p) r (table32 (now (t .entry)))) ⌝ }
 {
@@ -65,17 +67,144 @@ pub fn eliminate_rows(r: usize, k: usize, stage: Stage, lo: f64, t: &mut [f64; 1
     ok
 }
 
+// A copy of row k, in the columns after k and before r.
+pub fn copy_row(r: usize, k: usize, t: &[f64; 1024], y: &mut [f64; 32])
+    requires { ⌜ (k < r) × (r ≤ 32) × (length (now t) ≡ 1024) × (length (now y) ≡ 32) ⌝ }
+    ensures { λ _. ⌜ Part (now (y .exit)) (table32 (now (t .entry)) k) (suc k) r ⌝ }
+{
+    for j in k + 1..r {
+        let x = row::get(k, j, t);
+        vector::put(j, x, y);
+    }
+}
+
+// The multipliers of stage k's rows, and whether the rows' steps are in range. The new leaving rates go
+// to a vector, since the sums along the rows run over the diagonal too.
+pub fn multipliers(
+    r: usize,
+    k: usize,
+    stage: Stage,
+    lo: f64,
+    t: &mut [f64; 1024],
+    rates: &mut [f64; 32],
+) -> bool
+    requires { ⌜ (k < r) × (r ≤ 32) × (length (now t) ≡ 1024) × (length (now rates) ≡ 32) × (stage .s ≡ table32 (now t) k k) × Covering lo (table32 (now t) k) k r ⌝ }
+    ensures { λ ok. ⌜ Multiplied r k (stage .s) (stage .p) (table32 (now (t .entry))) ok (now (t .exit)) (now (rates .exit)) ⌝ }
+{
+    let mut ok = true;
+    for i in k + 1..r {
+        let m = row::get(i, k, t) / stage.p;
+        let row = range::row_told(r, k, i, stage, m, lo, t);
+        ok = ok & row;
+        let s = row::get(i, i, t) + m * stage.s;
+        row::put(i, k, m, t);
+        vector::put(i, s, rates);
+    }
+    ok
+}
+
+// The sums along stage k's rows, four rows at a time; returns the row after the last. y is a copy of row k.
+pub fn add_to_fours(r: usize, k: usize, y: &[f64; 32], t: &mut [f64; 1024]) -> usize
+    requires { ⌜ (k < r) × (r ≤ 32) × (length (now t) ≡ 1024) × Part (now y) (table32 (now t) k) (suc k) r ⌝ }
+    ensures { λ i. ⌜ (k < i) × (i ≤ r) × Holds (now (t .exit)) (between (suc k) i (summedRow k r (table32 (now (t .entry)))) (table32 (now (t .entry)))) ⌝ }
+{
+    let mut i = k + 1;
+    while i + 4 <= r {
+        row::add_to_four(i, k, r, y, t);
+        i += 4;
+    }
+    i
+}
+
+// The same from row `from`, one by one.
+pub fn add_to_rest(r: usize, k: usize, from: usize, y: &[f64; 32], t: &mut [f64; 1024])
+    requires { ⌜ (k < from) × (from ≤ r) × (r ≤ 32) × (length (now t) ≡ 1024) × Part (now y) (table32 (now t) k) (suc k) r ⌝ }
+    ensures { λ _. ⌜ Holds (now (t .exit)) (between from r (summedRow k r (table32 (now (t .entry)))) (table32 (now (t .entry)))) ⌝ }
+{
+    for i in from..r {
+        row::add_to_one(i, k, r, y, t);
+    }
+}
+
+// The leaving rates of stage k's rows go to the diagonal.
+pub fn put_rates(r: usize, k: usize, rates: &[f64; 32], t: &mut [f64; 1024])
+    requires { ⌜ (k < r) × (r ≤ 32) × (length (now rates) ≡ 32) × (length (now t) ≡ 1024) ⌝ }
+    ensures { λ _. ⌜ Holds (now (t .exit)) (between (suc k) r (diagonalRow (vector (now (rates .entry))) (table32 (now (t .entry)))) (table32 (now (t .entry)))) ⌝ }
+{
+    for i in k + 1..r {
+        let rate = vector::get(i, rates);
+        row::put(i, i, rate, t);
+    }
+}
+
+// Stage k's rows, four at a time: a number of row k is read once for four sums.
+pub fn eliminate_by_fours(r: usize, k: usize, stage: Stage, lo: f64, t: &mut [f64; 1024]) -> bool
+    requires { ⌜ (k < r) × (r ≤ 32) × (length (now t) ≡ 1024) × (stage .s ≡ table32 (now t) k k) × Covering lo (table32 (now t) k) k r ⌝ }
+    ensures { λ ok. ⌜ Finds ok (all (λ i. rowTest r k i (stage .p) (table32 (now (t .entry)) i) (table32 (now (t .entry)) k)) (suc k) (r - suc k)) (StageFinite r k (stage .p) (table32 (now (t .entry)))) (now (t .exit)) (eliminatedRows r k (stage .s) (stage .p) r (table32 (now (t .entry)))) ⌝ }
+{
+    let mut y = [0.0; 32];
+    let mut rates = [0.0; 32];
+    copy_row(r, k, t, &mut y);
+    let ok = multipliers(r, k, stage, lo, t, &mut rates);
+    let rest = add_to_fours(r, k, &y, t);
+    add_to_rest(r, k, rest, &y, t);
+    put_rates(r, k, &rates, t);
+    ok
+}
+
+// Stage k's rows, four at a time if the stage is wide.
+pub fn eliminate_rows(
+    r: usize,
+    k: usize,
+    stage: Stage,
+    lo: f64,
+    wide: bool,
+    t: &mut [f64; 1024],
+) -> bool
+    requires { ⌜ (k < r) × (r ≤ 32) × (length (now t) ≡ 1024) × (stage .s ≡ table32 (now t) k k) × Covering lo (table32 (now t) k) k r ⌝ }
+    ensures { λ ok. ⌜ Finds ok (all (λ i. rowTest r k i (stage .p) (table32 (now (t .entry)) i) (table32 (now (t .entry)) k)) (suc k) (r - suc k)) (StageFinite r k (stage .p) (table32 (now (t .entry)))) (now (t .exit)) (eliminatedRows r k (stage .s) (stage .p) r (table32 (now (t .entry)))) ⌝ }
+{
+    if wide {
+        return eliminate_by_fours(r, k, stage, lo, t);
+    }
+    eliminate_singly(r, k, stage, lo, t)
+}
+
 // Stage k, and whether its pivot is finite and its steps are in range.
-pub fn eliminate(r: usize, k: usize, t: &mut [f64; 1024]) -> bool
+pub fn eliminate(r: usize, k: usize, wide: bool, t: &mut [f64; 1024]) -> bool
     requires { ⌜ (k < r) × (r ≤ 32) × (length (now t) ≡ 1024) ⌝ }
     ensures { λ ok. ⌜ StageFinds r k (table32 (now (t .entry))) ok (now (t .exit)) ⌝ }
 {
     let stage = begin(r, k, t);
     let pivot = range::pivot_told(r, stage.p);
     let lo = least::least(1.0, k, k, r, t);
-    let rows = eliminate_rows(r, k, stage, lo, t);
+    let rows = eliminate_rows(r, k, stage, lo, wide, t);
     row::put(k, k, stage.p, t);
     pivot & rows
+}
+
+// How many stages are wide, those with more than eight rows and columns left: there the copy of the
+// row pays.
+pub fn wide_count(r: usize) -> usize
+    ensures { λ count. ⌜ count ≤ r ⌝ }
+{
+    if r <= 8 {
+        return 0;
+    }
+    r - 8
+}
+
+// The first `count` stages, all wide. They have a loop of their own, so that the small ones do not ask.
+pub fn wide_stages(r: usize, count: usize, t: &mut [f64; 1024]) -> bool
+    requires { ⌜ (count ≤ r) × (r ≤ 32) × (length (now t) ≡ 1024) ⌝ }
+    ensures { λ ok. ⌜ StagesFind r count (table32 (now (t .entry))) ok (now (t .exit)) ⌝ }
+{
+    let mut ok = true;
+    for k in 0..count {
+        let stage = eliminate(r, k, true, t);
+        ok = ok & stage;
+    }
+    ok
 }
 
 // Every stage, and whether their steps are in range.
@@ -83,9 +212,10 @@ pub fn downward(r: usize, t: &mut [f64; 1024]) -> bool
     requires { ⌜ (r ≤ 32) × (length (now t) ≡ 1024) ⌝ }
     ensures { λ ok. ⌜ Gives ok (stagesInRange r (table32 (now (t .entry))) r) (now (t .exit)) (stagesDone r (table32 (now (t .entry))) r) ⌝ }
 {
-    let mut ok = true;
-    for k in 0..r {
-        let stage = eliminate(r, k, t);
+    let count = wide_count(r);
+    let mut ok = wide_stages(r, count, t);
+    for k in count..r {
+        let stage = eliminate(r, k, false, t);
         ok = ok & stage;
     }
     ok

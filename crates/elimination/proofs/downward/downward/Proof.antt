@@ -1,20 +1,29 @@
--- `elimination::downward::downward` meets its contract: at stage k the stages before it are done. Assumes nothing.
-use Prim.Native.Nat.{_≤_, _-_}
+-- `elimination::downward::downward` meets its contract: at stage k the stages before it are done, from any table from which the wide ones were. Assumes nothing.
+use mathlib.Core.Path.{_≡_}
+use Prim.Native.Nat.{ℕ, _≤_, _-_}
 use native.Mathlib.Omega.{arith}
 use borrow.Author.Needs.{needs}
-use Rattle.elimination.specs.Places.{table32}
-use Rattle.elimination.proofs.FiniteStages.{StagesTold, stages-begin, stages-turn, stages-end}
+use lib.ListN.{length}
+use lib.Ieee.{Float}
+use Rattle.elimination.proofs.FiniteStages.{StagesTold, stages-resume, stages-turn, stages-end}
 use Rattle.elimination.proofs.downward.downward.Statement.{statement}
 use Rattle.elimination.proofs.downward.downward.Tie as tie
 
 abbrev Inv-loop : tie.InvT-loop
-Inv-loop r t₀ ok₀ k₀ t ok k = (k ≤ r) × StagesTold r (table32 t₀) k ok t
+Inv-loop r t₀ count ok₀ k₀ t ok k =
+    (k ≤ r) × (length t ≡ 1024) × ((f : ℕ → ℕ → Float) → StagesTold r f count ok₀ t₀ → StagesTold r f k ok t)
 
 abbrev μ-loop : tie.MeasureT-loop
-μ-loop r t₀ ok₀ k₀ t ok k = r - k
+μ-loop r t₀ count ok₀ k₀ t ok k = r - k
+
+wide-count-requires : tie.Need-wide-count-requires Inv-loop μ-loop
+wide-count-requires c κs = search needs
+
+wide-stages-requires : tie.Need-wide-stages-requires Inv-loop μ-loop
+wide-stages-requires c κs = search needs
 
 loop-holds : tie.Need-loop-holds Inv-loop μ-loop
-loop-holds c = (search needs, stages-begin (c .args .r) (c .pre .1))
+loop-holds c = (search needs, c .wide-stages .ensures .holds .long, λ f h. h)
 
 eliminate-requires : tie.Need-eliminate-requires Inv-loop μ-loop
 eliminate-requires c κs = search needs
@@ -26,12 +35,24 @@ loop-less : tie.Need-loop-less Inv-loop μ-loop
 loop-less c = search needs
 
 loop-again : tie.Need-loop-again Inv-loop μ-loop
-loop-again c = (omega arith, stages-turn (c .before .before .before .loop .inv .1) (c .eliminate .ensures))
+loop-again c = (omega arith, c .eliminate .ensures .holds .long, λ f h. stages-turn (c .before .before .before .loop .inv .2 f h) (c .eliminate .ensures))
 
 returns : tie.Need-returns Inv-loop μ-loop
-returns c = stages-end (c .before .loop .inv .1) (omega arith) (omega arith)
+returns c =
+    let l = c .before in
+    stages-end (l .loop .inv .2 _ (stages-resume (l .before .wide-stages .ensures))) (omega arith) (omega arith)
 
 pub downward-spec : {M : Type 1} → statement M
 downward-spec =
     tie.close
-    (tie.spec Inv-loop μ-loop loop-holds eliminate-requires add-k loop-less loop-again returns)
+    (tie.spec
+    Inv-loop
+    μ-loop
+    wide-count-requires
+    wide-stages-requires
+    loop-holds
+    eliminate-requires
+    add-k
+    loop-less
+    loop-again
+    returns)

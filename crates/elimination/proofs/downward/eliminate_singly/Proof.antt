@@ -1,4 +1,4 @@
--- `elimination::downward::eliminate_rows` meets its contract: at row i the rows from k + 1 before it are done. Assumes nothing.
+-- `elimination::downward::eliminate_singly` meets its contract: at row i the rows from k + 1 before it are done. Assumes nothing.
 use mathlib.Core.Path.{ap₂}
 use Prim.Native.Nat.{_≤_, _-_, suc}
 use native.Mathlib.Nat.{le-refl}
@@ -10,8 +10,8 @@ use Rattle.elimination.specs.Steps.{rowTest, eliminatedRow, eliminatedRo
 use Rattle.elimination.specs.Told.{RowFinite}
 use Rattle.elimination.proofs.Loops.{Down, down-begins, down-due, down-else, down-turns, down-ends}
 use Rattle.elimination.proofs.Told.{ToldEach, told-begins, told-turns, told-ends}
-use Rattle.elimination.proofs.downward.eliminate_rows.Statement.{statement}
-use Rattle.elimination.proofs.downward.eliminate_rows.Tie as tie
+use Rattle.elimination.proofs.downward.eliminate_singly.Statement.{statement}
+use Rattle.elimination.proofs.downward.eliminate_singly.Tie as tie
 
 abbrev Inv-loop : tie.InvT-loop
 Inv-loop r k stage lo t₀ ok₀ i₀ t ok i =
@@ -62,8 +62,8 @@ returns c =
     let h = c .before .loop .inv in
     record { told = told-ends (h .2) (omega arith) (omega arith); holds = down-ends (h .1) (omega arith) (omega arith) }
 
-pub eliminate-rows-spec : {M : Type 1} → statement M
-eliminate-rows-spec =
+pub eliminate-singly-spec : {M : Type 1} → statement M
+eliminate-singly-spec =
     tie.close
     (tie.spec
     Inv-loop
