@@ -303,8 +303,8 @@ def slow_sheets(n: int) -> list[tuple[str, Sheet]]:
     return [("ordinary", ordinary),
             (f"ordinary times 2^{edge}, the last power accepted", sheets.scaled(ordinary, edge)),
             (f"ordinary times 2^{edge - 1}", sheets.scaled(ordinary, edge - 1)),
-            ("one row of every second stage fails the quick test", sheets.pairs(rng, n)),
-            ("a line with one exit at its end: question 9 takes n passes", sheets.line(rng, n)),
+            ("a row of sizes at every second stage fails the quick test", sheets.pairs(rng, n)),
+            ("a line with one exit at its end: question 9 takes n turns", sheets.line(rng, n)),
             ("moves near 2^-600: a product of two rounds to zero", sheets.small_moves(rng, n, -600)),
             ("moves near 2^-520: a product of two is subnormal", sheets.small_moves(rng, n, -520))]
 
@@ -319,13 +319,14 @@ def part_slow_path(program: Path, sizes: Sequence[int], batches: int) -> None:
         check_answers(what, group, found)
         number = found[OURS].answers[0][0]
         rows.append([what, str(n), f"refused {number}" if number else "accepted",
-                     f"{sheets.full_tests(n, sheet)} of {n * (n - 1)}",
+                     f"{sheets.full_tests(n, sheet)} of {sheets.rows_to_test(n)}",
                      *(f"{found[name].nanoseconds:.0f}" for name in (OURS, CHECKED, UNCHECKED))])
-    print(f"2. Sheets at the edge of the range, reading 1, in nanoseconds, best of {batches} batches. A row update\n"
-          "passes the quick range test where its multiplier times the least of 1 and the nonzero numbers of the row\n"
-          "that is added is above 2^-1022. Full tests: the updates where it fails, so that each step of the row is\n"
-          "tested; on an accepted sheet they are at most one a stage. Where products are subnormal the processor\n"
-          "itself is slower, as plain C shows.\n")
+    print(f"2. Sheets at the edge of the range, reading 1, in nanoseconds, best of {batches} batches. A row of sizes\n"
+          "passes the quick range test where its multiplier times a bound of the row that is added (the least of 1 and\n"
+          "its nonzero numbers) is above 2^-1022, a row of b where each of its multipliers times a bound of the rows\n"
+          "done is. Full tests: of the row updates of the sizes and the rows of b, downward and upward, those that\n"
+          "fail it, so that their products are tested one by one. Where products are subnormal the processor itself\n"
+          "is slower, as plain C shows.\n")
     print_table(["sheet", "n", "answer", "full tests", OURS, CHECKED, UNCHECKED], rows)
 
 

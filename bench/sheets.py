@@ -58,7 +58,7 @@ def small_moves(rng: random.Random, n: int, exponent: int) -> Sheet:
 def pairs(rng: random.Random, n: int) -> Sheet:
     """Stages in pairs, n even.  The first of a pair moves to the second at hardly more than 2^-1022, the
     second to the first at a quarter of its leaving rate; both move to the second of every earlier pair.  At
-    every second stage the quick test fails for the one row that changes, and yet every step is in range."""
+    every second stage the quick test fails for the one row of sizes that changes, and yet every step is in range."""
     def size(i: int, j: int) -> float:
         if i // 2 == j // 2:
             return 2.0 ** -1022 * rng.uniform(2.0, 3.0) if i < j else 2.0 ** -102
@@ -67,35 +67,49 @@ def pairs(rng: random.Random, n: int) -> Sheet:
 
 
 def line(rng: random.Random, n: int) -> Sheet:
-    """Each stage moves to the next alone, and only the last leaves: question 9 marks one stage in a pass."""
+    """Each stage moves to the next alone, and only the last leaves: question 9 marks one stage at a turn."""
     return [rng.uniform(0.5, 2.0) if i == j == n - 1 else -rng.uniform(0.5, 2.0) if j == i + 1 else 0.0
             for i in range(n) for j in range(n)]
 
 
+def rows_to_test(n: int) -> int:
+    """The row updates of the sizes, and the rows of b, downward and upward."""
+    return n * (n - 1) // 2 + 2 * (n - 1)
+
+
 def full_tests(n: int, sheet: Sheet) -> int:
-    """How many of the n·(n − 1) row updates fail the quick range test and need the full one: those with a
-    multiplier m > 0 for which m times the least nonzero number of the row that is added, or m, is not above
-    2^-1022.  The steps run on where they leave the range."""
+    """How many of those fail the quick range test and are tested product by product.  A row of sizes passes
+    where its multiplier times the bound of the row that is added is above 2^-1022, a row of b where each of
+    its multipliers times the bound of all rows done is; a bound is the least of 1 and the nonzero numbers.
+    The steps run on where they leave the range."""
     t, s = reference.sheet_parts(n, sheet)
     b = [[1.0 if i == j else 0.0 for j in range(n)] for i in range(n)]
+    m = [[0.0] * n for _ in range(n)]
     p, count = [], 0
 
-    def update(i: int, k: int, least: float) -> float:
-        nonlocal count
-        m = t[i][k] / p[k]
-        count += t[i][k] != 0.0 and not m * least > reference.SMALLEST_NORMAL
-        b[i] = [x + m * y for x, y in zip(b[i], b[k])]
-        return m
+    def bound(numbers: list[float]) -> float:
+        return min([1.0] + [x for x in numbers if x != 0.0])
+
+    def passes(factor: float, least: float) -> bool:
+        return factor == 0.0 or factor * least > reference.SMALLEST_NORMAL
 
     for k in range(n):
         p.append(sum(t[k][k + 1:], s[k]))
-        least = min([1.0] + [x for x in [s[k], *t[k][k + 1:], *b[k]] if x != 0.0])
+        least = bound([s[k], *t[k][k + 1:]])
         for i in range(k + 1, n):
-            m = update(i, k, least)
-            s[i] += m * s[k]
-            t[i] = [t[i][j] + m * t[k][j] if j > k and j != i else t[i][j] for j in range(n)]
-    for k in range(n - 1, 0, -1):
-        least = min([1.0] + [x for x in b[k] if x != 0.0])
-        for i in range(k):
-            update(i, k, least)
+            m[i][k] = t[i][k] / p[k]
+            count += t[i][k] != 0.0 and not m[i][k] * least > reference.SMALLEST_NORMAL
+            s[i] += m[i][k] * s[k]
+            t[i] = [t[i][j] + m[i][k] * t[k][j] if j > k and j != i else t[i][j] for j in range(n)]
+    for i in range(n):
+        for k in range(i + 1, n):
+            m[i][k] = t[i][k] / p[k]
+    for rows in (list(range(n)), list(reversed(range(n)))):
+        least = 1.0
+        for place, i in enumerate(rows):
+            done = rows[:place]
+            count += not all(passes(m[i][k], least) for k in done)
+            for k in done:
+                b[i] = [x + m[i][k] * y for x, y in zip(b[i], b[k])]
+            least = bound([least, *b[i]])
     return count
