@@ -1,6 +1,7 @@
-// The steps on b, for all columns at once, but for the upward ones. The table t holds what the steps on
-// sizes and leaving rates leave: the pivots on the diagonal, and at place (i, k) the multiplier of row i
-// at stage k. Column j of b is made from column j alone.
+// Steps on b, for all columns at once: its start, the downward stages one after another (`descent` takes
+// them row by row where the multipliers are finite), and the last division. The table t holds what the
+// steps on sizes and leaving rates leave: the pivots on the diagonal, and at place (i, k) the multiplier of
+// row i at stage k. Column j of b is made from column j alone.
 use crate::least;
 use crate::range;
 use crate::row;

@@ -1,6 +1,7 @@
-// The range tests, from the numbers before the steps. That a result is finite is tested at the pivots
-// and the answers alone: an operand that is not finite shows there. A product is tested by a bound of
-// the numbers that it multiplies; where that is too small, the row's products are tested one by one.
+// The range tests, from the numbers before the steps; quotients are tested where they are made. That a
+// result is finite is tested at the pivots, the upward multipliers and the answers alone: what is not
+// finite shows there. A product is tested by a bound of the numbers that it multiplies; where that is too
+// small, the row's products are tested one by one.
 use crate::Stage;
 use crate::row;
 ghost use mathlib.Core.Path.{_≡_};

@@ -5,7 +5,7 @@ use crate::known;
 use elimination::row;
 use elimination::vector;
 ghost use mathlib.Core.Path.{_≡_};
-ghost use Prim.Native.Nat.{suc, _-_, _≤_, _<_};
+ghost use Prim.Native.Nat.{_-_, _≤_, _<_};
 ghost use lib.ListN.{length};
 ghost use Rattle.definitions.specs.Numbers.{_⊗_, _⊘_};
 ghost use Rattle.definitions.specs.Margins.{sumWith};

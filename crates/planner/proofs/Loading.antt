@@ -5,7 +5,7 @@ use native.Mathlib.Omega.{arith}
 use mathlib.Core.List.{List}
 use lib.Ieee.{Float, binary64, ofBits}
 use borrow.Author.Tests.{eq-eqb, ne-eqb}
-use Rattle.definitions.specs.Numbers.{_⊕_, _⊖_, 0·0}
+use Rattle.definitions.specs.Numbers.{_⊕_, _⊖_}
 use Rattle.definitions.specs.Sheet.{place, size, diagonal}
 use Rattle.rounding.proofs.Steps.{zero-word}
 use Rattle.elimination.specs.Places.{table32, Holds}
