@@ -8,14 +8,5 @@ by-rows-requires c κs =
     let s = c .before .before in
     (s .pre .0, s .pre .1, s .pre .2, s .pre .3, s .pre .4 (rw (c .before .if1 .taken) tt))
 
-returns : tie.Need-returns
-returns c = search needs
-
-down-requires : tie.Need-down-requires
-down-requires c κs = search needs
-
-returns-2 : tie.Need-returns-2
-returns-2 c = search needs
-
 pub downward-columns-spec : {M : Type 1} → statement M
-downward-columns-spec = tie.close (tie.spec by-rows-requires returns down-requires returns-2)
+downward-columns-spec = tie.close (tie.spec by-rows-requires (λ c. search needs) (λ c κs. search needs) (λ c. search needs))

@@ -5,12 +5,6 @@ use Rattle.elimination.proofs.EngineLaws.{identity-holds, multipliers-f
 use Rattle.elimination.proofs.solve.Statement.{statement}
 use Rattle.elimination.proofs.solve.Tie as tie
 
-shared-requires : tie.Need-shared-requires
-shared-requires c κs = search needs
-
-identity-requires : tie.Need-identity-requires
-identity-requires c κs = search needs
-
 downward-columns-requires : tie.Need-downward-columns-requires
 downward-columns-requires c κs =
     let one = c .before .before in
@@ -19,12 +13,6 @@ downward-columns-requires c κs =
     let done = first .shared .ensures in
     let h = one .identity .ensures in
     (s .pre .0, done .long, h .long, identity-holds (s .args .r) (table32 (s .args .b .now)) h, multipliers-finite (s .args .r) (s .pre .0) (s .args .t .now) (first .shared .last .1 .0) (s .args .b .now) done)
-
-up-requires : tie.Need-up-requires
-up-requires c κs = search needs
-
-quotients-requires : tie.Need-quotients-requires
-quotients-requires c κs = search needs
 
 returns : tie.Need-returns
 returns c =
@@ -39,9 +27,9 @@ pub solve-spec : {M : Type 1} → statement M
 solve-spec =
     tie.close
     (tie.spec
-    shared-requires
-    identity-requires
+    (λ c κs. search needs)
+    (λ c κs. search needs)
     downward-columns-requires
-    up-requires
-    quotients-requires
+    (λ c κs. search needs)
+    (λ c κs. search needs)
     returns)

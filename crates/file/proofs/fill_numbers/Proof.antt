@@ -26,32 +26,11 @@ mul-numbers c = omega (arith, few-words (c .before .before .args .bytes .now) (c
 word-of-requires : tie.Need-word-of-requires Inv-loop μ-loop
 word-of-requires c κs = (c .before .before .before .before .pre .0, c .loop-test .taken)
 
-from-word-requires : tie.Need-from-word-requires Inv-loop μ-loop
-from-word-requires c κs = tt
-
-mul-area : tie.Need-mul-area Inv-loop μ-loop
-mul-area c = omega arith
-
-slice-write-area : tie.Need-slice-write-area Inv-loop μ-loop
-slice-write-area c = omega arith
-
-add-k : tie.Need-add-k Inv-loop μ-loop
-add-k c = omega arith
-
-loop-less : tie.Need-loop-less Inv-loop μ-loop
-loop-less c = omega arith
-
 loop-again : tie.Need-loop-again Inv-loop μ-loop
 loop-again c =
     let l = c .before .before .before in
     let number = c .from-word .ensures ∙ ap (ofBits binary64) (c .before .word-of .ensures) ∙ file-number (l .before .before .before .args .bytes .now) (l .loop .k) in
     one-more (c .from-word .result) (ofBits binary64 0) (l .loop .inv) (c .before .before .loop-test .taken) number
-
-same-length : tie.Need-same-length Inv-loop μ-loop
-same-length c = c .before .loop .inv .same
-
-returns : tie.Need-returns Inv-loop μ-loop
-returns c = all-written (c .before .loop .inv) (c .loop-test .left)
 
 pub fill-numbers-spec : {M : Type 1} → statement M
 fill-numbers-spec =
@@ -62,11 +41,11 @@ fill-numbers-spec =
     mul-numbers
     loop-holds
     word-of-requires
-    from-word-requires
-    mul-area
-    slice-write-area
-    add-k
-    loop-less
+    (λ c κs. tt)
+    (λ c. omega arith)
+    (λ c. omega arith)
+    (λ c. omega arith)
+    (λ c. omega arith)
     loop-again
-    same-length
-    returns)
+    (λ c. c .before .loop .inv .same)
+    (λ c. all-written (c .before .loop .inv) (c .loop-test .left)))

@@ -24,26 +24,8 @@ mul-words c = omega (arith, few-words (c .before .before .args .bytes .now) (c .
 word-of-requires : tie.Need-word-of-requires Inv-loop μ-loop
 word-of-requires c κs = (c .before .before .before .before .pre .0, c .loop-test .taken)
 
-mul-area : tie.Need-mul-area Inv-loop μ-loop
-mul-area c = omega arith
-
-slice-write-area : tie.Need-slice-write-area Inv-loop μ-loop
-slice-write-area c = omega arith
-
-add-k : tie.Need-add-k Inv-loop μ-loop
-add-k c = omega arith
-
-loop-less : tie.Need-loop-less Inv-loop μ-loop
-loop-less c = omega arith
-
 loop-again : tie.Need-loop-again Inv-loop μ-loop
 loop-again c = one-more (c .word-of .result) 0 (c .before .before .loop .inv) (c .before .loop-test .taken) (c .word-of .ensures)
-
-same-length : tie.Need-same-length Inv-loop μ-loop
-same-length c = c .before .loop .inv .same
-
-returns : tie.Need-returns Inv-loop μ-loop
-returns c = all-written (c .before .loop .inv) (c .loop-test .left)
 
 pub fill-words-spec : {M : Type 1} → statement M
 fill-words-spec =
@@ -54,10 +36,10 @@ fill-words-spec =
     mul-words
     loop-holds
     word-of-requires
-    mul-area
-    slice-write-area
-    add-k
-    loop-less
+    (λ c. omega arith)
+    (λ c. omega arith)
+    (λ c. omega arith)
+    (λ c. omega arith)
     loop-again
-    same-length
-    returns)
+    (λ c. c .before .loop .inv .same)
+    (λ c. all-written (c .before .loop .inv) (c .loop-test .left)))

@@ -8,14 +8,8 @@ use Rattle.file.proofs.Records.{head-kind, head-length, head-holds}
 use Rattle.file.proofs.is_good_head.Statement.{statement}
 use Rattle.file.proofs.is_good_head.Tie as tie
 
-field-at-requires : tie.Need-field-at-requires
-field-at-requires c κs = search needs
-
 returns : tie.Need-returns
 returns c = head-kind (c .before .before .before .args .bytes .now) (c .before .field-at .result) (c .before .field-at .ensures) (c .if1 .taken)
-
-field-at-requires-2 : tie.Need-field-at-requires-2
-field-at-requires-2 c κs = search needs
 
 returns-2 : tie.Need-returns-2
 returns-2 c =
@@ -31,9 +25,6 @@ field-at-requires-4 : tie.Need-field-at-requires-4
 unfolding recordLength
 field-at-requires-4 c κs = omega arith
 
-may-hold-requires : tie.Need-may-hold-requires
-may-hold-requires c κs = search needs
-
 returns-3 : tie.Need-returns-3
 unfolding recordLength
 returns-3 c =
@@ -46,11 +37,11 @@ pub is-good-head-spec : {M : Type 1} → statement M
 is-good-head-spec =
     tie.close
     (tie.spec
-    field-at-requires
+    (λ c κs. search needs)
     returns
-    field-at-requires-2
+    (λ c κs. search needs)
     returns-2
     field-at-requires-3
     field-at-requires-4
-    may-hold-requires
+    (λ c κs. search needs)
     returns-3)

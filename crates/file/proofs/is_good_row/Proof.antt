@@ -9,34 +9,16 @@ use Rattle.file.proofs.Records.{row-kind, row-length, row-number}
 use Rattle.file.proofs.is_good_row.Statement.{statement}
 use Rattle.file.proofs.is_good_row.Tie as tie
 
-add-field-at : tie.Need-add-field-at
-add-field-at c = search needs
-
-field-at-requires : tie.Need-field-at-requires
-field-at-requires c κs = search needs
-
 returns : tie.Need-returns
 returns c =
     let a = c .before .before .before .args in
     row-kind (a .bytes .now) (a .at) (a .n) (a .due) (c .before .field-at .result) (c .before .field-at .ensures) (c .if1 .taken)
-
-field-at-requires-2 : tie.Need-field-at-requires-2
-field-at-requires-2 c κs = search needs
-
-mul-if2 : tie.Need-mul-if2
-mul-if2 c = search needs
-
-add-if2 : tie.Need-add-if2
-add-if2 c = search needs
 
 returns-2 : tie.Need-returns-2
 returns-2 c =
     let a = c .before .before .before .before .before .args in
     let kind : little 2 (drop (a .at + 4) (a .bytes .now)) ≡ 2 = omega arith in
     row-length (a .bytes .now) (a .at) (a .n) (a .due) (c .before .field-at2 .result) kind (c .before .field-at2 .ensures) (c .if2 .taken)
-
-add-field-at-2 : tie.Need-add-field-at-2
-add-field-at-2 c = search needs
 
 field-at-requires-3 : tie.Need-field-at-requires-3
 unfolding recordLength
@@ -54,13 +36,13 @@ pub is-good-row-spec : {M : Type 1} → statement M
 is-good-row-spec =
     tie.close
     (tie.spec
-    add-field-at
-    field-at-requires
+    (λ c. search needs)
+    (λ c κs. search needs)
     returns
-    field-at-requires-2
-    mul-if2
-    add-if2
+    (λ c κs. search needs)
+    (λ c. search needs)
+    (λ c. search needs)
     returns-2
-    add-field-at-2
+    (λ c. search needs)
     field-at-requires-3
     returns-3)

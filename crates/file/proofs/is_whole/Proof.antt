@@ -5,14 +5,8 @@ use Rattle.file.proofs.Records.{cut-short, whole-by-length}
 use Rattle.file.proofs.is_whole.Statement.{statement}
 use Rattle.file.proofs.is_whole.Tie as tie
 
-sub-left : tie.Need-sub-left
-sub-left c = search needs
-
 returns : tie.Need-returns
 returns c = cut-short (c .before .before .args .bytes .now) (c .before .before .args .at) (omega arith)
-
-field-at-requires : tie.Need-field-at-requires
-field-at-requires c κs = search needs
 
 returns-2 : tie.Need-returns-2
 returns-2 c =
@@ -20,4 +14,4 @@ returns-2 c =
     whole-by-length (a .bytes .now) (a .at) (c .field-at .result) (c .field-at .ensures) (omega arith)
 
 pub is-whole-spec : {M : Type 1} → statement M
-is-whole-spec = tie.close (tie.spec sub-left returns field-at-requires returns-2)
+is-whole-spec = tie.close (tie.spec (λ c. search needs) returns (λ c κs. search needs) returns-2)

@@ -19,12 +19,6 @@ Inv-loop bytes room reading n at₀ due₀ at due = Judged bytes room reading n 
 abbrev μ-loop : tie.MeasureT-loop
 μ-loop bytes room reading n at₀ due₀ at due = n + 1 - due
 
-is-whole-requires : tie.Need-is-whole-requires Inv-loop μ-loop
-is-whole-requires c κs = search needs
-
-refused-requires : tie.Need-refused-requires Inv-loop μ-loop
-refused-requires c κs = search needs
-
 returns : tie.Need-returns Inv-loop μ-loop
 returns c =
     let a = c .before .before .before .before .args in
@@ -37,9 +31,6 @@ whole-head c = granted (c .before .is-whole .result) (wholeRecord (c .before .be
 
 is-good-head-requires : tie.Need-is-good-head-requires Inv-loop μ-loop
 is-good-head-requires c κs = omega (arith, whole-room (c .before .before .before .args .bytes .now) 0 (whole-head c))
-
-refused-requires-2 : tie.Need-refused-requires-2 Inv-loop μ-loop
-refused-requires-2 c κs = search needs
 
 returns-2 : tie.Need-returns-2 Inv-loop μ-loop
 returns-2 c =
@@ -59,12 +50,6 @@ head-held c =
     let bytes = c .before .before .before .before .before .args .bytes .now in
     omega (arith, whole-room bytes 0 (whole-head (c .before .before)), head-read bytes (good-head c) .size)
 
-field-at-requires : tie.Need-field-at-requires Inv-loop μ-loop
-field-at-requires c κs = omega (arith, head-held c)
-
-field-at-requires-2 : tie.Need-field-at-requires-2 Inv-loop μ-loop
-field-at-requires-2 c κs = omega (arith, head-held (c .before))
-
 loop-holds : tie.Need-loop-holds Inv-loop μ-loop
 loop-holds c =
     let at-head = c .before .before in
@@ -77,12 +62,6 @@ bytes-of c = c .before .before .before .before .before .before .before .before .
 
 abbrev room-of : tie.At-loop Inv-loop μ-loop → ℕ
 room-of c = c .before .before .before .before .before .before .before .before .args .room
-
-is-whole-requires-2 : tie.Need-is-whole-requires-2 Inv-loop μ-loop
-is-whole-requires-2 c κs = search needs
-
-refused-requires-3 : tie.Need-refused-requires-3 Inv-loop μ-loop
-refused-requires-3 c κs = search needs
 
 returns-3 : tie.Need-returns-3 Inv-loop μ-loop
 returns-3 c =
@@ -102,9 +81,6 @@ is-good-row-requires c κs =
     let l = c .before .before .before in
     (whole-room (bytes-of l) (l .loop .at) (whole-row c), l .loop .inv .few)
 
-refused-requires-4 : tie.Need-refused-requires-4 Inv-loop μ-loop
-refused-requires-4 c κs = search needs
-
 returns-4 : tie.Need-returns-4 Inv-loop μ-loop
 returns-4 c =
     let at-row = c .before .before .before in
@@ -113,21 +89,6 @@ returns-4 c =
     let bad = denied (test .result) (goodRow (l .before .field-at2 .result) (l .loop .due) (drop (l .loop .at) (bytes-of l))) (test .ensures) (c .before .if4 .taken) in
     refused-by (bytes-of l) (room-of l) 13 (l .loop .due) (c .refused4 .result) (c .refused4 .ensures)
     (l .loop .inv .left ∙ row-bad (bytes-of l) (room-of l) (l .before .field-at2 .result) (l .loop .at) (l .loop .due) (at-row .before .before .loop-test .taken) (whole-row at-row) bad)
-
-mul-at : tie.Need-mul-at Inv-loop μ-loop
-mul-at c = omega arith
-
-add-at : tie.Need-add-at Inv-loop μ-loop
-add-at c = omega arith
-
-add-at-2 : tie.Need-add-at-2 Inv-loop μ-loop
-add-at-2 c = omega arith
-
-add-due : tie.Need-add-due Inv-loop μ-loop
-add-due c = omega arith
-
-loop-less : tie.Need-loop-less Inv-loop μ-loop
-loop-less c = omega arith
 
 loop-again : tie.Need-loop-again Inv-loop μ-loop
 loop-again c =
@@ -140,9 +101,6 @@ loop-again c =
 mul-places : tie.Need-mul-places Inv-loop μ-loop
 mul-places c = omega (arith, few-squared (c .before .before .field-at2 .result) (c .before .loop .inv .few))
 
-refused-requires-5 : tie.Need-refused-requires-5 Inv-loop μ-loop
-refused-requires-5 c κs = search needs
-
 returns-5 : tie.Need-returns-5 Inv-loop μ-loop
 returns-5 c =
     let l = c .before .before .before in
@@ -154,9 +112,6 @@ rows-done : (c : tie.Else5 Inv-loop μ-loop) → fileQuestions (bytes-of (c .bef
 rows-done c =
     let l = c .before .before in
     l .loop .inv .left ∙ at-end (bytes-of l) (room-of l) (l .before .field-at2 .result) (l .loop .at) (l .loop .due) (c .before .loop-test .left) (c .if5 .left)
-
-refused-requires-6 : tie.Need-refused-requires-6 Inv-loop μ-loop
-refused-requires-6 c κs = search needs
 
 returns-6 : tie.Need-returns-6 Inv-loop μ-loop
 returns-6 c =
@@ -178,30 +133,30 @@ judge-spec =
     (tie.spec
     Inv-loop
     μ-loop
-    is-whole-requires
-    refused-requires
+    (λ c κs. search needs)
+    (λ c κs. search needs)
     returns
     is-good-head-requires
-    refused-requires-2
+    (λ c κs. search needs)
     returns-2
-    field-at-requires
-    field-at-requires-2
+    (λ c κs. omega (arith, head-held c))
+    (λ c κs. omega (arith, head-held (c .before)))
     loop-holds
-    is-whole-requires-2
-    refused-requires-3
+    (λ c κs. search needs)
+    (λ c κs. search needs)
     returns-3
     is-good-row-requires
-    refused-requires-4
+    (λ c κs. search needs)
     returns-4
-    mul-at
-    add-at
-    add-at-2
-    add-due
-    loop-less
+    (λ c. omega arith)
+    (λ c. omega arith)
+    (λ c. omega arith)
+    (λ c. omega arith)
+    (λ c. omega arith)
     loop-again
     mul-places
-    refused-requires-5
+    (λ c κs. search needs)
     returns-5
-    refused-requires-6
+    (λ c κs. search needs)
     returns-6
     returns-7)

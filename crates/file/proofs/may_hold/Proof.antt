@@ -8,9 +8,6 @@ use Rattle.file.proofs.Records.{denied, granted}
 use Rattle.file.proofs.may_hold.Statement.{statement}
 use Rattle.file.proofs.may_hold.Tie as tie
 
-is-reading-requires : tie.Need-is-reading-requires
-is-reading-requires c κs = search needs
-
 -- The test of the reading r.
 either : ℕ → Bool
 either r = eqb r 1 || eqb r 2
@@ -36,4 +33,4 @@ returns-3 c =
     )
 
 pub may-hold-spec : {M : Type 1} → statement M
-may-hold-spec = tie.close (tie.spec is-reading-requires returns returns-2 returns-3)
+may-hold-spec = tie.close (tie.spec (λ c κs. search needs) returns returns-2 returns-3)

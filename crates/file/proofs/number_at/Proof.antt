@@ -18,18 +18,6 @@ abbrev μ-loop : tie.MeasureT-loop
 loop-holds : tie.Need-loop-holds Inv-loop μ-loop
 loop-holds c = (omega arith, no-bytes (c .args .bytes .now) (c .args .at) (c .args .width))
 
-add-k : tie.Need-add-k Inv-loop μ-loop
-add-k c = omega arith
-
-sub-number : tie.Need-sub-number Inv-loop μ-loop
-sub-number c = omega arith
-
-add-number : tie.Need-add-number Inv-loop μ-loop
-add-number c = omega arith
-
-shared-slice-read-number : tie.Need-shared-slice-read-number Inv-loop μ-loop
-shared-slice-read-number c = omega arith
-
 -- Every byte is below 256, and one more fits.
 small : (c : tie.After-shared-slice-known Inv-loop μ-loop) (i : ℕ) → getD (c .before .before .before .args .bytes .now) i 0 < 256
 small c i = omega (arith, c .shared-slice-known .given i)
@@ -40,17 +28,8 @@ fits c =
     let l = c .before .before .loop in
     byte-fits (a .bytes .now) (a .at) (a .width) (small c) (l .k) (l .number) (omega arith) (l .inv .1)
 
-cast-number : tie.Need-cast-number Inv-loop μ-loop
-cast-number c = record { fits = lt-trans (small c _) (lit< tt) }
-
-mul-number : tie.Need-mul-number Inv-loop μ-loop
-mul-number c = omega (arith, fits c)
-
 add-number-2 : tie.Need-add-number-2 Inv-loop μ-loop
 add-number-2 c = record { fits = byte-added (c .before .before .loop .number) (small c _) (fits c) }
-
-loop-less : tie.Need-loop-less Inv-loop μ-loop
-loop-less c = omega arith
 
 loop-again : tie.Need-loop-again Inv-loop μ-loop
 loop-again c =
@@ -71,13 +50,13 @@ number-at-spec =
     Inv-loop
     μ-loop
     loop-holds
-    add-k
-    sub-number
-    add-number
-    shared-slice-read-number
-    cast-number
-    mul-number
+    (λ c. omega arith)
+    (λ c. omega arith)
+    (λ c. omega arith)
+    (λ c. omega arith)
+    (λ c. record { fits = lt-trans (small c _) (lit< tt) })
+    (λ c. omega (arith, fits c))
     add-number-2
-    loop-less
+    (λ c. omega arith)
     loop-again
     returns)

@@ -6,23 +6,11 @@ use Rattle.file.proofs.Reading.{to-fill, sheet-read, refusal-read}
 use Rattle.file.proofs.read_words.Statement.{statement}
 use Rattle.file.proofs.read_words.Tie as tie
 
-judge-requires : tie.Need-judge-requires
-judge-requires c κs = search needs
-
-enum-known-answer : tie.Need-enum-known-answer
-enum-known-answer c = search needs
-
 fill-words-requires : tie.Need-fill-words-requires
 fill-words-requires c κs =
     let told = c .before .before in
     let a = told .before .before .before .before .before .args in
     to-fill (a .bytes .now) (length (a .area .now)) (told .before .before .judge .ensures) (told .answer .given .1)
-
-enum-told : tie.Need-enum-told
-enum-told c = search needs
-
-same-length : tie.Need-same-length
-same-length c = search needs
 
 returns : tie.Need-returns
 unfolding fileWordArea
@@ -41,10 +29,10 @@ pub read-words-spec : {M : Type 1} → statement M
 read-words-spec =
     tie.close
     (tie.spec
-    judge-requires
-    enum-known-answer
+    (λ c κs. search needs)
+    (λ c. search needs)
     fill-words-requires
-    enum-told
-    same-length
+    (λ c. search needs)
+    (λ c. search needs)
     returns
     returns-2)

@@ -13,18 +13,6 @@ held c = word-held (c .before .args .bytes .now) (c .before .args .n) (c .before
 div-number-at : tie.Need-div-number-at
 div-number-at c = at-least-one (c .before .args .bytes .now) (c .before .args .n) (c .before .pre .0)
 
-add-number-at : tie.Need-add-number-at
-add-number-at c = omega (arith, held c)
-
-mul-number-at : tie.Need-mul-number-at
-mul-number-at c = omega (arith, held c)
-
-add-number-at-2 : tie.Need-add-number-at-2
-add-number-at-2 c = omega (arith, held c)
-
-number-at-requires : tie.Need-number-at-requires
-number-at-requires c κs = omega (arith, held c)
-
 returns : tie.Need-returns
 returns c =
     let s = c .before .before in
@@ -33,4 +21,4 @@ returns c =
 pub word-of-spec : {M : Type 1} → statement M
 word-of-spec =
     tie.close
-    (tie.spec div-number-at add-number-at mul-number-at add-number-at-2 number-at-requires returns)
+    (tie.spec div-number-at (λ c. omega (arith, held c)) (λ c. omega (arith, held c)) (λ c. omega (arith, held c)) (λ c κs. omega (arith, held c)) returns)

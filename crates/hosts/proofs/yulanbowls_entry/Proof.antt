@@ -5,15 +5,6 @@ use Rattle.hosts.proofs.Calls.{entry-given, entry-refused}
 use Rattle.hosts.proofs.yulanbowls_entry.Statement.{statement}
 use Rattle.hosts.proofs.yulanbowls_entry.Tie as tie
 
-one-entry-requires : tie.Need-one-entry-requires
-one-entry-requires c κs = search needs
-
-enum-known-told : tie.Need-enum-known-told
-enum-known-told c = search needs
-
-enum-known-told-2 : tie.Need-enum-known-told-2
-enum-known-told-2 c = search needs
-
 returns : tie.Need-returns
 returns c =
     entry-given (c .before .before .before .one-entry .ensures) (c .before .told .given .1)
@@ -25,4 +16,4 @@ returns-2 c =
 
 pub yulanbowls-entry-spec : {M : Type 1} → statement M
 yulanbowls-entry-spec =
-    tie.close (tie.spec one-entry-requires enum-known-told enum-known-told-2 returns returns-2)
+    tie.close (tie.spec (λ c κs. search needs) (λ c. search needs) (λ c. search needs) returns returns-2)

@@ -5,15 +5,6 @@ use Rattle.hosts.proofs.Calls.{file-call}
 use Rattle.hosts.proofs.yulanbowls_read_numbers.Statement.{statement}
 use Rattle.hosts.proofs.yulanbowls_read_numbers.Tie as tie
 
-read-numbers-requires : tie.Need-read-numbers-requires
-read-numbers-requires c κs = search needs
-
-hand-over-requires : tie.Need-hand-over-requires
-hand-over-requires c κs = search needs
-
-same-length : tie.Need-same-length
-same-length c = search needs
-
 returns : tie.Need-returns
 returns c =
     let read = c .before .before .before .before .before .before .before in
@@ -22,4 +13,4 @@ returns c =
 
 pub yulanbowls-read-numbers-spec : {M : Type 1} → statement M
 yulanbowls-read-numbers-spec =
-    tie.close (tie.spec read-numbers-requires hand-over-requires same-length returns)
+    tie.close (tie.spec (λ c κs. search needs) (λ c κs. search needs) (λ c. search needs) returns)

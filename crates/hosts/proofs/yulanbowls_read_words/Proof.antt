@@ -5,15 +5,6 @@ use Rattle.hosts.proofs.Calls.{file-call}
 use Rattle.hosts.proofs.yulanbowls_read_words.Statement.{statement}
 use Rattle.hosts.proofs.yulanbowls_read_words.Tie as tie
 
-read-words-requires : tie.Need-read-words-requires
-read-words-requires c κs = search needs
-
-hand-over-requires : tie.Need-hand-over-requires
-hand-over-requires c κs = search needs
-
-same-length : tie.Need-same-length
-same-length c = search needs
-
 returns : tie.Need-returns
 returns c =
     let read = c .before .before .before .before .before .before .before in
@@ -22,4 +13,4 @@ returns c =
 
 pub yulanbowls-read-words-spec : {M : Type 1} → statement M
 yulanbowls-read-words-spec =
-    tie.close (tie.spec read-words-requires hand-over-requires same-length returns)
+    tie.close (tie.spec (λ c κs. search needs) (λ c κs. search needs) (λ c. search needs) returns)

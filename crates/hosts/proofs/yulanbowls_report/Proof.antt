@@ -9,12 +9,6 @@ returns c =
     let a = c .before .before .before .args in
     report-short (a .bytes .now) (a .text .now) (c .if1 .taken)
 
-answer-requires : tie.Need-answer-requires
-answer-requires c κs = search needs
-
-same-length : tie.Need-same-length
-same-length c = search needs
-
 returns-2 : tie.Need-returns-2
 returns-2 c =
     let answered = c .before .before in
@@ -23,4 +17,4 @@ returns-2 c =
     report-written (a .bytes .now) (a .text .now) (if1 .if1 .left) (answered .answer .ensures)
 
 pub yulanbowls-report-spec : {M : Type 1} → statement M
-yulanbowls-report-spec = tie.close (tie.spec returns answer-requires same-length returns-2)
+yulanbowls-report-spec = tie.close (tie.spec returns (λ c κs. search needs) (λ c. search needs) returns-2)

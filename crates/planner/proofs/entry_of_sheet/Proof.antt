@@ -14,9 +14,6 @@ use Rattle.planner.proofs.entry_of_sheet.Tie as tie
 stages : (s : tie.Start) → Input s.args.reading s.args.n (now s.args.sheet) × ((1 ≤ s.args.i) × (s.args.i ≤ s.args.n)) × ((1 ≤ s.args.j) × (s.args.j ≤ s.args.n))
 stages s = entry-input-passed s.args.reading s.args.n (now s.args.sheet) s.args.i s.args.j s.pre
 
-steps-requires : tie.Need-steps-requires
-steps-requires c κs = (stages (c .before .before) .0 .square, refl)
-
 sub-get : tie.Need-sub-get
 sub-get c = let p = stages (c .before .before .before .before) in omega (arith, p .1, p .2)
 
@@ -42,4 +39,4 @@ returns-2 c =
 
 pub entry-of-sheet-spec : {M : Type 1} → statement M
 entry-of-sheet-spec =
-    tie.close (tie.spec steps-requires sub-get sub-get-2 get-requires returns returns-2)
+    tie.close (tie.spec (λ c κs. (stages (c .before .before) .0 .square, refl)) sub-get sub-get-2 get-requires returns returns-2)

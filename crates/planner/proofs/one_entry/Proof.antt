@@ -6,20 +6,8 @@ use Rattle.planner.proofs.Services.{entry-refused}
 use Rattle.planner.proofs.one_entry.Statement.{statement}
 use Rattle.planner.proofs.one_entry.Tie as tie
 
-entry-input-requires : tie.Need-entry-input-requires
-entry-input-requires c κs = search needs
-
-enum-told : tie.Need-enum-told
-enum-told c = search needs
-
 entry-of-sheet-requires : tie.Need-entry-of-sheet-requires
 entry-of-sheet-requires c κs = told (c .before .before .entry-input .ensures) (c .enum-told .given .1)
-
-enum-known-asked : tie.Need-enum-known-asked
-enum-known-asked c = search needs
-
-returns : tie.Need-returns
-returns c = search needs
 
 returns-2 : tie.Need-returns-2
 returns-2 c =
@@ -27,4 +15,4 @@ returns-2 c =
     entry-refused s.args.reading s.args.n (now s.args.sheet) s.args.i s.args.j (told (c .before .before .before .entry-input .ensures) (c .before .asked .given .1))
 
 pub one-entry-spec : {M : Type 1} → statement M
-one-entry-spec = tie.close (tie.spec entry-input-requires enum-told entry-of-sheet-requires enum-known-asked returns returns-2)
+one-entry-spec = tie.close (tie.spec (λ c κs. search needs) (λ c. search needs) entry-of-sheet-requires (λ c. search needs) (λ c. search needs) returns-2)

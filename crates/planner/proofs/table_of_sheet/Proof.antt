@@ -16,9 +16,6 @@ use Rattle.planner.proofs.table_of_sheet.Tie as tie
 input : (s : tie.Start) → Input s.args.reading s.args.n (now s.args.sheet) × (s.args.n * s.args.n ≤ length (now s.args.answer))
 input s = table-input-passed s.args.reading s.args.n (now s.args.sheet) (length (now s.args.answer)) s.pre
 
-steps-requires : tie.Need-steps-requires
-steps-requires c κs = (input (c .before .before .before) .0 .square, refl)
-
 write-requires : tie.Need-write-requires
 write-requires c κs =
     let p = input (c .before .before .before .before .before .before .before) in
@@ -26,9 +23,6 @@ write-requires c κs =
 
 allowance-of-requires : tie.Need-allowance-of-requires
 allowance-of-requires c κs = input (c .before .before .before .before .before .before .before .before .before .before) .0 .square .few
-
-same-length : tie.Need-same-length
-same-length c = search needs
 
 returns : tie.Need-returns
 unfolding Binary64
@@ -45,4 +39,4 @@ returns-2 c =
 pub table-of-sheet-spec : {M : Type 1} → statement M
 table-of-sheet-spec =
     tie.close
-    (tie.spec steps-requires write-requires allowance-of-requires same-length returns returns-2)
+    (tie.spec (λ c κs. (input (c .before .before .before) .0 .square, refl)) write-requires allowance-of-requires (λ c. search needs) returns returns-2)

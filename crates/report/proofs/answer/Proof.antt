@@ -7,15 +7,6 @@ use Rattle.report.proofs.Reporting.{reported, places, stages, sheet-tex
 use Rattle.report.proofs.answer.Statement.{statement}
 use Rattle.report.proofs.answer.Tie as tie
 
-slice-aggregate-read-numbers : tie.Need-slice-aggregate-read-numbers
-slice-aggregate-read-numbers c = search needs
-
-read-numbers-requires : tie.Need-read-numbers-requires
-read-numbers-requires c κs = search needs
-
-enum-known-loaded : tie.Need-enum-known-loaded
-enum-known-loaded c = search needs
-
 mul-places : tie.Need-mul-places
 mul-places c =
     let told = c .before in
@@ -44,24 +35,12 @@ table-text-requires c κs =
     let start = read .before .before .before .before in
     (stages (start .args .bytes .now) _ _ refl (read .read-numbers .ensures .0) (read .read-numbers .ensures .1) (told .loaded .given .1), start .pre)
 
-enum-known-loaded-2 : tie.Need-enum-known-loaded-2
-enum-known-loaded-2 c = search needs
-
-refused-text-requires : tie.Need-refused-text-requires
-refused-text-requires c κs = search needs
-
-same-length : tie.Need-same-length
-same-length c = search needs
-
 returns : tie.Need-returns
 returns c =
     let told = c .before .before .before .before .before .before in
     let read = told .before .before .before in
     let start = read .before .before .before .before in
     reported (sheet-text (start .args .bytes .now) _ _ refl (read .read-numbers .ensures .0) (read .read-numbers .ensures .1) (told .loaded .given .1)) (omega arith) (c .before .before .table-text .ensures)
-
-same-length-2 : tie.Need-same-length-2
-same-length-2 c = search needs
 
 returns-2 : tie.Need-returns-2
 returns-2 c =
@@ -74,16 +53,16 @@ pub answer-spec : {M : Type 1} → statement M
 answer-spec =
     tie.close
     (tie.spec
-    slice-aggregate-read-numbers
-    read-numbers-requires
-    enum-known-loaded
+    (λ c. search needs)
+    (λ c κs. search needs)
+    (λ c. search needs)
     mul-places
     array-share-prefix-area
     slice-aggregate-table-text
     table-text-requires
-    enum-known-loaded-2
-    refused-text-requires
-    same-length
+    (λ c. search needs)
+    (λ c κs. search needs)
+    (λ c. search needs)
     returns
-    same-length-2
+    (λ c. search needs)
     returns-2)

@@ -7,32 +7,11 @@ use Rattle.report.proofs.Reporting.{same-text, allowed-text, turned-awa
 use Rattle.report.proofs.table_text.Statement.{statement}
 use Rattle.report.proofs.table_text.Tie as tie
 
-slice-aggregate-whole-table : tie.Need-slice-aggregate-whole-table
-slice-aggregate-whole-table c = search needs
-
-whole-table-requires : tie.Need-whole-table-requires
-whole-table-requires c κs = search needs
-
-enum-known-table : tie.Need-enum-known-table
-enum-known-table c = search needs
-
-slice-aggregate-seconds-text : tie.Need-slice-aggregate-seconds-text
-slice-aggregate-seconds-text c = search needs
-
 seconds-text-requires : tie.Need-seconds-text-requires
 seconds-text-requires c κs =
     let made = c .before .before .before .before .before .before in
     let start = made .before .before .before .before in
     (start .pre .0, omega (arith, few-squared (start .args .n) (start .pre .0)), start .pre .1)
-
-enum-known-table-2 : tie.Need-enum-known-table-2
-enum-known-table-2 c = search needs
-
-refused-text-requires : tie.Need-refused-text-requires
-refused-text-requires c κs = search needs
-
-same-length : tie.Need-same-length
-same-length c = search needs
 
 returns : tie.Need-returns
 returns c =
@@ -40,9 +19,6 @@ returns c =
     let made = told .before .before .before in
     let start = made .before .before .before .before in
     same-text (allowed-text (start .args .reading) (start .args .n) (start .args .sheet .now) _ _ refl (made .whole-table .ensures) (told .table .given .1)) (c .before .before .seconds-text .ensures)
-
-same-length-2 : tie.Need-same-length-2
-same-length-2 c = search needs
 
 returns-2 : tie.Need-returns-2
 returns-2 c =
@@ -55,14 +31,14 @@ pub table-text-spec : {M : Type 1} → statement M
 table-text-spec =
     tie.close
     (tie.spec
-    slice-aggregate-whole-table
-    whole-table-requires
-    enum-known-table
-    slice-aggregate-seconds-text
+    (λ c. search needs)
+    (λ c κs. search needs)
+    (λ c. search needs)
+    (λ c. search needs)
     seconds-text-requires
-    enum-known-table-2
-    refused-text-requires
-    same-length
+    (λ c. search needs)
+    (λ c κs. search needs)
+    (λ c. search needs)
     returns
-    same-length-2
+    (λ c. search needs)
     returns-2)

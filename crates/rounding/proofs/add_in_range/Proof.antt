@@ -4,12 +4,9 @@ use Rattle.definitions.specs.Numbers.{addInRange}
 use Rattle.rounding.proofs.add_in_range.Statement.{statement}
 use Rattle.rounding.proofs.add_in_range.Tie as tie
 
-is-finite-requires : tie.Need-is-finite-requires
-is-finite-requires c κs = search needs
-
 returns : tie.Need-returns
 unfolding addInRange
 returns c = search needs
 
 pub add-in-range-spec : {M : Type 1} → statement M
-add-in-range-spec = tie.close (tie.spec is-finite-requires returns)
+add-in-range-spec = tie.close (tie.spec (λ c κs. search needs) returns)

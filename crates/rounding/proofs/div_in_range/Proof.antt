@@ -5,11 +5,8 @@ use Rattle.rounding.proofs.Steps.{quotient-test}
 use Rattle.rounding.proofs.div_in_range.Statement.{statement}
 use Rattle.rounding.proofs.div_in_range.Tie as tie
 
-result-in-range-requires : tie.Need-result-in-range-requires
-result-in-range-requires c κs = search needs
-
 returns : tie.Need-returns
 returns c = c .result-in-range .ensures ∙ quotient-test (c .before .args .x) (c .before .args .y)
 
 pub div-in-range-spec : {M : Type 1} → statement M
-div-in-range-spec = tie.close (tie.spec result-in-range-requires returns)
+div-in-range-spec = tie.close (tie.spec (λ c κs. search needs) returns)

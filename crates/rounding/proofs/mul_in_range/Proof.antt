@@ -5,11 +5,8 @@ use Rattle.rounding.proofs.Steps.{product-test}
 use Rattle.rounding.proofs.mul_in_range.Statement.{statement}
 use Rattle.rounding.proofs.mul_in_range.Tie as tie
 
-result-in-range-requires : tie.Need-result-in-range-requires
-result-in-range-requires c κs = search needs
-
 returns : tie.Need-returns
 returns c = c .result-in-range .ensures ∙ product-test (c .before .args .x) (c .before .args .y)
 
 pub mul-in-range-spec : {M : Type 1} → statement M
-mul-in-range-spec = tie.close (tie.spec result-in-range-requires returns)
+mul-in-range-spec = tie.close (tie.spec (λ c κs. search needs) returns)

@@ -4,12 +4,9 @@ use Rattle.rounding.proofs.Steps.{by-tests}
 use Rattle.rounding.proofs.result_in_range.Statement.{statement}
 use Rattle.rounding.proofs.result_in_range.Tie as tie
 
-is-finite-requires : tie.Need-is-finite-requires
-is-finite-requires c κs = search needs
-
 returns : tie.Need-returns
 returns c = by-tests (c .before .args .x) (c .before .args .y) (c .before .args .r) (c .is-finite .ensures)
 
 pub result-in-range-spec : {M : Type 1} → statement M
 result-in-range-spec =
-    tie.close (tie.spec is-finite-requires returns)
+    tie.close (tie.spec (λ c κs. search needs) returns)

@@ -9,15 +9,6 @@ use Rattle.sheet.proofs.Bools.{and-first, and-second}
 use Rattle.sheet.proofs.ask_entry.Statement.{statement}
 use Rattle.sheet.proofs.ask_entry.Tie as tie
 
-is-stage-requires : tie.Need-is-stage-requires
-is-stage-requires c κs = search needs
-
-is-stage-requires-2 : tie.Need-is-stage-requires-2
-is-stage-requires-2 c κs = search needs
-
-ask-whole-requires : tie.Need-ask-whole-requires
-ask-whole-requires c κs = search needs
-
 both-stages : (c : tie.Joined1) →
     let a = c .before .before .args in
     c .if1 .ask-whole ≡ (leb 1 a.i && leb a.i a.n && (leb 1 a.j && leb a.j a.n))
@@ -33,4 +24,4 @@ returns c = c .ask-whole .ensures ∙ ap (λ yes. ask yes 5 0 0) (both-stages (c
 
 pub ask-entry-spec : {M : Type 1} → statement M
 ask-entry-spec =
-    tie.close (tie.spec is-stage-requires is-stage-requires-2 ask-whole-requires returns)
+    tie.close (tie.spec (λ c κs. search needs) (λ c κs. search needs) (λ c κs. search needs) returns)

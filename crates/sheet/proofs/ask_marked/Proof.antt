@@ -15,23 +15,8 @@ Inv-loop n marks i₀ i = (i ≤ n) × (askStages (isMarked marks) 9 0 n ≡ fro
 abbrev μ-loop : tie.MeasureT-loop
 μ-loop n marks i₀ i = n - i
 
-loop-holds : tie.Need-loop-holds Inv-loop μ-loop
-loop-holds c = (zero-le, all-stages _ _ _)
-
-element-copy-out-if1 : tie.Need-element-copy-out-if1 Inv-loop μ-loop
-element-copy-out-if1 c = omega arith
-
-add-t9 : tie.Need-add-t9 Inv-loop μ-loop
-add-t9 c = omega arith
-
 returns : tie.Need-returns Inv-loop μ-loop
 returns c = sym (c .before .before .before .loop .inv .1 ∙ bad-stage _ _ _ _ (c .before .before .loop-test .taken) (not-true _ (c .if1 .taken)))
-
-add-i : tie.Need-add-i Inv-loop μ-loop
-add-i c = omega arith
-
-loop-less : tie.Need-loop-less Inv-loop μ-loop
-loop-less c = omega arith
 
 loop-again : tie.Need-loop-again Inv-loop μ-loop
 loop-again c = (omega arith, c .before .before .before .loop .inv .1 ∙ good-stage _ _ _ _ (c .before .before .loop-test .taken) (not-false _ (c .if1 .left)))
@@ -45,11 +30,11 @@ ask-marked-spec =
     (tie.spec
     Inv-loop
     μ-loop
-    loop-holds
-    element-copy-out-if1
-    add-t9
+    (λ c. (zero-le, all-stages _ _ _))
+    (λ c. omega arith)
+    (λ c. omega arith)
     returns
-    add-i
-    loop-less
+    (λ c. omega arith)
+    (λ c. omega arith)
     loop-again
     returns-2)

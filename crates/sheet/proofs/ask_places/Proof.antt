@@ -29,20 +29,11 @@ Inv-rows question reading n sheet answer₀ i₀ answer i =
 abbrev μ-rows : tie.MeasureT-rows
 μ-rows question reading n sheet answer₀ i₀ answer i = n - i
 
-is-refusal-requires : tie.Need-is-refusal-requires Inv-loop μ-loop Inv-rows μ-rows
-is-refusal-requires c κs = search needs
-
-returns : tie.Need-returns Inv-loop μ-loop Inv-rows μ-rows
-returns c = ends refl (c .before .is-refusal .ensures) _ (c .if1 .taken)
-
 -- No earlier refusal: this question decides.
 asked-after : (c : tie.Else1 Inv-loop μ-loop Inv-rows μ-rows) →
     let a = c .before .before .before .args in
     (asked a.earlier then askPlaces a.question a.reading a.n (now a.sheet)) ≡ askPlaces a.question a.reading a.n (now a.sheet)
 asked-after c = goes-on {a = asked (c .before .before .before .args .earlier)} refl (c .before .is-refusal .ensures) _ (c .if1 .left)
-
-rows-holds : tie.Need-rows-holds Inv-loop μ-loop Inv-rows μ-rows
-rows-holds c = (zero-le, refl, scan-rows _ _ _ _)
 
 loop-holds : tie.Need-loop-holds Inv-loop μ-loop Inv-rows μ-rows
 loop-holds c = (zero-le, c .before .rows .inv .1, c .before .rows .inv .2 ∙ enter-row _ _ _ _ (c .rows-test .taken))
@@ -50,37 +41,16 @@ loop-holds c = (zero-le, c .before .rows .inv .1, c .before .rows .inv .2 ∙ en
 number-at-requires : tie.Need-number-at-requires Inv-loop μ-loop Inv-rows μ-rows
 number-at-requires c κs = (c .before .before .before .before .before .before .before .pre, c .before .before .rows-test .taken, c .loop-test .taken)
 
-place-passes-requires : tie.Need-place-passes-requires Inv-loop μ-loop Inv-rows μ-rows
-place-passes-requires c κs = search needs
-
 -- The test is the question of the place.
 tested : (c : tie.After-place-passes Inv-loop μ-loop Inv-rows μ-rows) →
     let a = c .before .before .before .before .before .before .before .before .before .args in
     placePasses a.question a.reading a.n (now a.sheet) (c .before .before .before .before .before .rows .i) (c .before .before .before .loop .j) ≡ c .place-passes .result
 tested c = scan-place _ _ _ _ _ _ (c .before .number-at .ensures) (c .place-passes .ensures)
 
-add-t14 : tie.Need-add-t14 Inv-loop μ-loop Inv-rows μ-rows
-add-t14 c = omega arith
-
-add-t15 : tie.Need-add-t15 Inv-loop μ-loop Inv-rows μ-rows
-add-t15 c = omega arith
-
-add-j : tie.Need-add-j Inv-loop μ-loop Inv-rows μ-rows
-add-j c = omega arith
-
-loop-less : tie.Need-loop-less Inv-loop μ-loop Inv-rows μ-rows
-loop-less c = omega arith
-
 loop-again : tie.Need-loop-again Inv-loop μ-loop Inv-rows μ-rows
 loop-again c =
     let at = c .before .before .before .before in
     (omega arith, at .loop .inv .1, at .loop .inv .2 ∙ good-place _ _ _ _ _ (c .before .before .before .loop-test .taken) (tested (c .before) ∙ not-false _ (c .if2 .left)))
-
-add-i : tie.Need-add-i Inv-loop μ-loop Inv-rows μ-rows
-add-i c = omega arith
-
-rows-less : tie.Need-rows-less Inv-loop μ-loop Inv-rows μ-rows
-rows-less c = omega arith
 
 rows-again : tie.Need-rows-again Inv-loop μ-loop Inv-rows μ-rows
 rows-again c = (omega arith, c .before .loop .inv .1, c .before .loop .inv .2 ∙ leave-row _ _ _ _ _ (c .loop-test .left))
@@ -106,19 +76,19 @@ ask-places-spec =
     μ-loop
     Inv-rows
     μ-rows
-    is-refusal-requires
-    returns
-    rows-holds
+    (λ c κs. search needs)
+    (λ c. ends refl (c .before .is-refusal .ensures) _ (c .if1 .taken))
+    (λ c. (zero-le, refl, scan-rows _ _ _ _))
     loop-holds
     number-at-requires
-    place-passes-requires
-    add-t14
-    add-t15
-    add-j
-    loop-less
+    (λ c κs. search needs)
+    (λ c. omega arith)
+    (λ c. omega arith)
+    (λ c. omega arith)
+    (λ c. omega arith)
     loop-again
-    add-i
-    rows-less
+    (λ c. omega arith)
+    (λ c. omega arith)
     rows-again
     returns-2
     returns-3)

@@ -9,9 +9,6 @@ use Rattle.sheet.proofs.Bools.{or-first, or-second}
 use Rattle.sheet.proofs.ask_reading.Statement.{statement}
 use Rattle.sheet.proofs.ask_reading.Tie as tie
 
-ask-whole-requires : tie.Need-ask-whole-requires
-ask-whole-requires c κs = search needs
-
 returns : tie.Need-returns
 unfolding question1
 returns c =
@@ -21,4 +18,4 @@ returns c =
     (⊎-elim (λ w. or-first (eqb n 2) (eq-eqb n 1 (w .0 .taken)) (w .1)) (λ w. or-second (ne-eqb n 1 (w .0 .left)) (w .1)) (c .before .if1 .came))
 
 pub ask-reading-spec : {M : Type 1} → statement M
-ask-reading-spec = tie.close (tie.spec ask-whole-requires returns)
+ask-reading-spec = tie.close (tie.spec (λ c κs. search needs) returns)

@@ -6,15 +6,9 @@ use Rattle.sheet.proofs.Shape.{square-small}
 use Rattle.sheet.proofs.ask_room.Statement.{statement}
 use Rattle.sheet.proofs.ask_room.Tie as tie
 
-mul-ask-whole : tie.Need-mul-ask-whole
-mul-ask-whole c = omega (arith, square-small (c .pre))
-
-ask-whole-requires : tie.Need-ask-whole-requires
-ask-whole-requires c κs = search needs
-
 returns : tie.Need-returns
 unfolding question4
 returns c = c .ask-whole .ensures
 
 pub ask-room-spec : {M : Type 1} → statement M
-ask-room-spec = tie.close (tie.spec mul-ask-whole ask-whole-requires returns)
+ask-room-spec = tie.close (tie.spec (λ c. omega (arith, square-small (c .pre))) (λ c κs. search needs) returns)

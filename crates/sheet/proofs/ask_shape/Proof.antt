@@ -6,20 +6,8 @@ use Rattle.sheet.proofs.Shape.{few-stages}
 use Rattle.sheet.proofs.ask_shape.Statement.{statement}
 use Rattle.sheet.proofs.ask_shape.Tie as tie
 
-ask-reading-requires : tie.Need-ask-reading-requires
-ask-reading-requires c κs = search needs
-
-is-refusal-requires : tie.Need-is-refusal-requires
-is-refusal-requires c κs = search needs
-
 returns : tie.Need-returns
 returns c = ends (c .before .before .ask-reading .ensures) (c .before .is-refusal .ensures) _ (c .if1 .taken)
-
-ask-stages-requires : tie.Need-ask-stages-requires
-ask-stages-requires c κs = search needs
-
-is-refusal-requires-2 : tie.Need-is-refusal-requires-2
-is-refusal-requires-2 c κs = search needs
 
 returns-2 : tie.Need-returns-2
 returns-2 c =
@@ -39,11 +27,11 @@ pub ask-shape-spec : {M : Type 1} → statement M
 ask-shape-spec =
     tie.close
     (tie.spec
-    ask-reading-requires
-    is-refusal-requires
+    (λ c κs. search needs)
+    (λ c κs. search needs)
     returns
-    ask-stages-requires
-    is-refusal-requires-2
+    (λ c κs. search needs)
+    (λ c κs. search needs)
     returns-2
     ask-length-requires
     returns-3)

@@ -5,15 +5,9 @@ use Rattle.definitions.specs.Questions.{ask, question2}
 use Rattle.sheet.proofs.ask_stages.Statement.{statement}
 use Rattle.sheet.proofs.ask_stages.Tie as tie
 
-is-stage-requires : tie.Need-is-stage-requires
-is-stage-requires c κs = search needs
-
-ask-whole-requires : tie.Need-ask-whole-requires
-ask-whole-requires c κs = search needs
-
 returns : tie.Need-returns
 unfolding question2
 returns c = c .ask-whole .ensures ∙ ap (λ yes. ask yes 2 0 0) (c .before .is-stage .ensures)
 
 pub ask-stages-spec : {M : Type 1} → statement M
-ask-stages-spec = tie.close (tie.spec is-stage-requires ask-whole-requires returns)
+ask-stages-spec = tie.close (tie.spec (λ c κs. search needs) (λ c κs. search needs) returns)

@@ -13,12 +13,6 @@ use Rattle.sheet.proofs.Marking.{leaves-out}
 use Rattle.sheet.proofs.ask_trapped.Statement.{statement}
 use Rattle.sheet.proofs.ask_trapped.Tie as tie
 
-is-refusal-requires : tie.Need-is-refusal-requires
-is-refusal-requires c κs = search needs
-
-returns : tie.Need-returns
-returns c = ends refl (c .before .is-refusal .ensures) _ (c .if1 .taken)
-
 -- No earlier refusal: this question decides.
 asked-after : (c : tie.Else1) →
     let a = c .before .before .before .args in
@@ -29,9 +23,6 @@ returns-2 : tie.Need-returns-2
 unfolding question9
 returns-2 c = sym (asked-after (c .before) ∙ rw (ne-eqb _ 1 (c .if2 .taken)))
 
-all-leave-requires : tie.Need-all-leave-requires
-all-leave-requires c κs = search needs
-
 returns-3 : tie.Need-returns-3
 unfolding question9
 returns-3 c =
@@ -40,12 +31,6 @@ returns-3 c =
     sym
     (asked-after (c .before .before .before)
     ∙ rw (eq-eqb a.reading 1 (c .before .before .if2 .left)) (stages-pass (getsOut a.n (now a.sheet)) 9 a.n (λ i l. leaves-out a.n (now a.sheet) i l (all i l))))
-
-reach-requires : tie.Need-reach-requires
-reach-requires c κs = search needs
-
-ask-marked-requires : tie.Need-ask-marked-requires
-ask-marked-requires c κs = search needs
 
 returns-4 : tie.Need-returns-4
 unfolding question9
@@ -59,11 +44,11 @@ pub ask-trapped-spec : {M : Type 1} → statement M
 ask-trapped-spec =
     tie.close
     (tie.spec
-    is-refusal-requires
-    returns
+    (λ c κs. search needs)
+    (λ c. ends refl (c .before .is-refusal .ensures) _ (c .if1 .taken))
     returns-2
-    all-leave-requires
+    (λ c κs. search needs)
     returns-3
-    reach-requires
-    ask-marked-requires
+    (λ c κs. search needs)
+    (λ c κs. search needs)
     returns-4)

@@ -17,28 +17,10 @@ Inv-loop reading n sheet good₀ i₀ good i = (i ≤ n) × (good ≡ true → (
 abbrev μ-loop : tie.MeasureT-loop
 μ-loop reading n sheet good₀ i₀ good i = n - i
 
-loop-holds : tie.Need-loop-holds Inv-loop μ-loop
-loop-holds c = (zero-le, λ e k l. absurd (omega arith))
-
-number-at-requires : tie.Need-number-at-requires Inv-loop μ-loop
-number-at-requires c κs = search needs
-
-parameter-passes-requires : tie.Need-parameter-passes-requires Inv-loop μ-loop
-parameter-passes-requires c κs = search needs
-
-add-i : tie.Need-add-i Inv-loop μ-loop
-add-i c = omega arith
-
-loop-less : tie.Need-loop-less Inv-loop μ-loop
-loop-less c = omega arith
-
 loop-again : tie.Need-loop-again Inv-loop μ-loop
 loop-again c =
     let a = c .before .before .before .before .before .args in
     (omega arith, and-more (λ k. PassesOn a.reading (place a.n (now a.sheet) k k)) _ _ _ (c .before .before .before .loop .inv .1) (λ t. subst (PassesOn a.reading) (c .before .number-at .ensures) (c .parameter-passes .ensures t)))
-
-returns : tie.Need-returns Inv-loop μ-loop
-returns c = λ e i l. c .before .loop .inv .1 e i (omega arith)
 
 pub diagonal-passes-spec : {M : Type 1} → statement M
 diagonal-passes-spec =
@@ -46,10 +28,10 @@ diagonal-passes-spec =
     (tie.spec
     Inv-loop
     μ-loop
-    loop-holds
-    number-at-requires
-    parameter-passes-requires
-    add-i
-    loop-less
+    (λ c. (zero-le, λ e k l. absurd (omega arith)))
+    (λ c κs. search needs)
+    (λ c κs. search needs)
+    (λ c. omega arith)
+    (λ c. omega arith)
     loop-again
-    returns)
+    (λ c. λ e i l. c .before .loop .inv .1 e i (omega arith)))

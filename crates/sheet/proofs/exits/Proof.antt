@@ -18,26 +18,11 @@ Inv-loop sheet n next₀ i₀ next i = (i ≤ n) × Marked (before (λ k. false)
 abbrev μ-loop : tie.MeasureT-loop
 μ-loop sheet n next₀ i₀ next i = n - i
 
-no-marks-requires : tie.Need-no-marks-requires Inv-loop μ-loop
-no-marks-requires c κs = search needs
-
 loop-holds : tie.Need-loop-holds Inv-loop μ-loop
 loop-holds c = (zero-le, first-stage _ _ (none-marked (c .before .before .pre .few) (c .no-marks .ensures)))
 
-has-exit-requires : tie.Need-has-exit-requires Inv-loop μ-loop
-has-exit-requires c κs = search needs
-
-element-write-next : tie.Need-element-write-next Inv-loop μ-loop
-element-write-next c = omega arith
-
 add-next : tie.Need-add-next Inv-loop μ-loop
 add-next c = omega (arith, marked-few (c .before .before .before .loop .inv .1))
-
-add-i : tie.Need-add-i Inv-loop μ-loop
-add-i c = omega arith
-
-loop-less : tie.Need-loop-less Inv-loop μ-loop
-loop-less c = omega arith
 
 loop-again : tie.Need-loop-again Inv-loop μ-loop
 loop-again c =
@@ -59,12 +44,12 @@ exits-spec =
     (tie.spec
     Inv-loop
     μ-loop
-    no-marks-requires
+    (λ c κs. search needs)
     loop-holds
-    has-exit-requires
-    element-write-next
+    (λ c κs. search needs)
+    (λ c. omega arith)
     add-next
-    add-i
-    loop-less
+    (λ c. omega arith)
+    (λ c. omega arith)
     loop-again
     returns)

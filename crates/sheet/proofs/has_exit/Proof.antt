@@ -6,12 +6,9 @@ use Rattle.rounding.proofs.Steps.{zero-word}
 use Rattle.sheet.proofs.has_exit.Statement.{statement}
 use Rattle.sheet.proofs.has_exit.Tie as tie
 
-number-at-requires : tie.Need-number-at-requires
-number-at-requires c κs = search needs
-
 returns : tie.Need-returns
 unfolding leaves diagonal
 returns c = rw (zero-word, c .number-at .ensures)
 
 pub has-exit-spec : {M : Type 1} → statement M
-has-exit-spec = tie.close (tie.spec number-at-requires returns)
+has-exit-spec = tie.close (tie.spec (λ c κs. search needs) returns)

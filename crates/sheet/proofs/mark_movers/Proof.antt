@@ -20,26 +20,8 @@ Inv-loop sheet n j next₀ i₀ next i = (i ≤ n) × Marked (before (isMarked n
 abbrev μ-loop : tie.MeasureT-loop
 μ-loop sheet n j next₀ i₀ next i = n - i
 
-loop-holds : tie.Need-loop-holds Inv-loop μ-loop
-loop-holds c = (zero-le, first-stage _ _ (c .before .pre .2))
-
-element-copy-out-if1 : tie.Need-element-copy-out-if1 Inv-loop μ-loop
-element-copy-out-if1 c = omega arith
-
-moves-from-to-requires : tie.Need-moves-from-to-requires Inv-loop μ-loop
-moves-from-to-requires c κs = search needs
-
-element-write-next : tie.Need-element-write-next Inv-loop μ-loop
-element-write-next c = omega arith
-
 add-next : tie.Need-add-next Inv-loop μ-loop
 add-next c = omega (arith, marked-few (c .before .before .before .before .before .loop .inv .1))
-
-add-i : tie.Need-add-i Inv-loop μ-loop
-add-i c = omega arith
-
-loop-less : tie.Need-loop-less Inv-loop μ-loop
-loop-less c = omega arith
 
 -- Stage i is marked already, or does not move to j.
 marked-or-still : (c : tie.Joined1 Inv-loop μ-loop) →
@@ -68,12 +50,12 @@ mark-movers-spec =
     (tie.spec
     Inv-loop
     μ-loop
-    loop-holds
-    element-copy-out-if1
-    moves-from-to-requires
-    element-write-next
+    (λ c. (zero-le, first-stage _ _ (c .before .pre .2)))
+    (λ c. omega arith)
+    (λ c κs. search needs)
+    (λ c. omega arith)
     add-next
-    add-i
-    loop-less
+    (λ c. omega arith)
+    (λ c. omega arith)
     loop-again
     returns)

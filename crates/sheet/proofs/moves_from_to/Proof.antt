@@ -9,9 +9,6 @@ use Rattle.rounding.proofs.Steps.{zero-word}
 use Rattle.sheet.proofs.moves_from_to.Statement.{statement}
 use Rattle.sheet.proofs.moves_from_to.Tie as tie
 
-number-at-requires : tie.Need-number-at-requires
-number-at-requires c κs = search needs
-
 returns : tie.Need-returns
 unfolding moves size isZero ne
 returns c = rw (ne-eqb (c .before .before .before .args .i) (c .before .before .before .args .j) (c .before .if1 .taken), zero-word, c .number-at .ensures)
@@ -21,4 +18,4 @@ unfolding moves
 returns-2 c = rw (eq-eqb (c .before .before .args .i) (c .before .before .args .j) (c .if1 .left))
 
 pub moves-from-to-spec : {M : Type 1} → statement M
-moves-from-to-spec = tie.close (tie.spec number-at-requires returns returns-2)
+moves-from-to-spec = tie.close (tie.spec (λ c κs. search needs) returns returns-2)

@@ -18,25 +18,10 @@ Inv-loop done n marks i₀ i = (i ≤ n) × ((k : ℕ) → k < i → isMarked ma
 abbrev μ-loop : tie.MeasureT-loop
 μ-loop done n marks i₀ i = n - i
 
-loop-holds : tie.Need-loop-holds Inv-loop μ-loop
-loop-holds c = (zero-le, λ k l. absurd (omega arith))
-
-element-copy-out-if1 : tie.Need-element-copy-out-if1 Inv-loop μ-loop
-element-copy-out-if1 c = omega arith
-
-element-copy-out-if2 : tie.Need-element-copy-out-if2 Inv-loop μ-loop
-element-copy-out-if2 c = omega arith
-
 returns : tie.Need-returns Inv-loop μ-loop
 returns c =
     let l = c .before .before .before .before .loop-test .taken in
     record { inside = omega arith; waits = λ h. (c .before .before .if1 .taken, not-true _ (c .if2 .taken)); none = λ e. absurd (omega arith) }
-
-add-i : tie.Need-add-i Inv-loop μ-loop
-add-i c = omega arith
-
-loop-less : tie.Need-loop-less Inv-loop μ-loop
-loop-less c = omega arith
 
 loop-again : tie.Need-loop-again Inv-loop μ-loop
 loop-again c = (omega arith, below-more _ _ (c .before .before .before .loop .inv .1) (λ t. ⊎-elim (λ w. not-false _ (w .2 .left)) (λ w. absurd (contrary _ t (w .left))) (c .if1 .came)))
@@ -50,11 +35,11 @@ next-stage-spec =
     (tie.spec
     Inv-loop
     μ-loop
-    loop-holds
-    element-copy-out-if1
-    element-copy-out-if2
+    (λ c. (zero-le, λ k l. absurd (omega arith)))
+    (λ c. omega arith)
+    (λ c. omega arith)
     returns
-    add-i
-    loop-less
+    (λ c. omega arith)
+    (λ c. omega arith)
     loop-again
     returns-2)

@@ -18,9 +18,6 @@ mul-result-2 c = omega (arith, inside (c .pre .1) (c .pre .2), square-small (c .
 shared-slice-read-result : tie.Need-shared-slice-read-result
 shared-slice-read-result c = rw (c .before .pre .0 .held) (inside (c .before .pre .1) (c .before .pre .2))
 
-returns : tie.Need-returns
-returns c = search needs
-
 pub number-at-spec : {M : Type 1} → statement M
 number-at-spec =
-    tie.close (tie.spec mul-result add-result mul-result-2 shared-slice-read-result returns)
+    tie.close (tie.spec mul-result add-result mul-result-2 shared-slice-read-result (λ c. search needs))

@@ -3,8 +3,5 @@ use Rattle.sheet.proofs.Quick.{parameter-passes}
 use Rattle.sheet.proofs.parameter_passes.Statement.{statement}
 use Rattle.sheet.proofs.parameter_passes.Tie as tie
 
-returns : tie.Need-returns
-returns c = parameter-passes _ _
-
 pub parameter-passes-spec : {M : Type 1} → statement M
-parameter-passes-spec = tie.close (tie.spec returns)
+parameter-passes-spec = tie.close (tie.spec (λ c. parameter-passes _ _))

@@ -5,22 +5,13 @@ use Rattle.sheet.specs.Places.{passes}
 use Rattle.sheet.proofs.place_passes.Statement.{statement}
 use Rattle.sheet.proofs.place_passes.Tie as tie
 
-is-finite-requires : tie.Need-is-finite-requires
-is-finite-requires c κs = search needs
-
 returns : tie.Need-returns
 unfolding passes
 returns c = rw (eq-eqb (c .before .before .args .question) 6 (c .before .if1 .taken)) (c .is-finite .ensures)
 
-right-sign-requires : tie.Need-right-sign-requires
-right-sign-requires c κs = search needs
-
 returns-2 : tie.Need-returns-2
 unfolding passes
 returns-2 c = rw (ne-eqb (c .before .before .before .args .question) 6 (c .before .before .if1 .left), eq-eqb (c .before .before .before .args .question) 7 (c .before .if2 .taken)) (c .right-sign .ensures)
-
-large-enough-requires : tie.Need-large-enough-requires
-large-enough-requires c κs = search needs
 
 returns-3 : tie.Need-returns-3
 unfolding passes
@@ -30,9 +21,9 @@ pub place-passes-spec : {M : Type 1} → statement M
 place-passes-spec =
     tie.close
     (tie.spec
-    is-finite-requires
+    (λ c κs. search needs)
     returns
-    right-sign-requires
+    (λ c κs. search needs)
     returns-2
-    large-enough-requires
+    (λ c κs. search needs)
     returns-3)

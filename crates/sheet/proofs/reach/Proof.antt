@@ -15,17 +15,11 @@ Inv-loop sheet n marks₀ done₀ marks done = Reached n sheet marks done
 abbrev μ-loop : tie.MeasureT-loop
 μ-loop sheet n marks₀ done₀ marks done = toDo n done
 
-exits-requires : tie.Need-exits-requires Inv-loop μ-loop
-exits-requires c κs = search needs
-
 loop-holds : tie.Need-loop-holds Inv-loop μ-loop
 loop-holds c = reached-begins _ _ (c .before .before .pre .few) (c .exits .ensures)
 
 returns : tie.Need-returns Inv-loop μ-loop
 returns c = reached-all _ _ (c .before .before .loop .inv) (c .if1 .taken)
-
-next-stage-requires : tie.Need-next-stage-requires Inv-loop μ-loop
-next-stage-requires c κs = c .before .before .before .before .before .before .pre .few
 
 returns-2 : tie.Need-returns-2 Inv-loop μ-loop
 returns-2 c = reached-closed _ _ (c .before .before .before .before .before .loop .inv) (c .before .next-stage .ensures .none (c .if2 .taken))
@@ -43,9 +37,6 @@ waits c =
 
 mark-movers-requires : tie.Need-mark-movers-requires Inv-loop μ-loop
 mark-movers-requires c κs = (c .before .before .before .before .before .before .before .before .pre, waits c .0, c .before .before .before .before .before .loop .inv .counted)
-
-array-write-done : tie.Need-array-write-done Inv-loop μ-loop
-array-write-done c = omega (arith, waits (c .before) .0)
 
 loop-less : tie.Need-loop-less Inv-loop μ-loop
 loop-less c =
@@ -65,12 +56,12 @@ reach-spec =
     (tie.spec
     Inv-loop
     μ-loop
-    exits-requires
+    (λ c κs. search needs)
     loop-holds
     returns
-    next-stage-requires
+    (λ c κs. c .before .before .before .before .before .before .pre .few)
     returns-2
     mark-movers-requires
-    array-write-done
+    (λ c. omega (arith, waits (c .before) .0))
     loop-less
     loop-again)

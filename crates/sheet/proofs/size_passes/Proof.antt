@@ -3,8 +3,5 @@ use Rattle.sheet.proofs.Quick.{size-passes}
 use Rattle.sheet.proofs.size_passes.Statement.{statement}
 use Rattle.sheet.proofs.size_passes.Tie as tie
 
-returns : tie.Need-returns
-returns c = size-passes _
-
 pub size-passes-spec : {M : Type 1} → statement M
-size-passes-spec = tie.close (tie.spec returns)
+size-passes-spec = tie.close (tie.spec (λ c. size-passes _))

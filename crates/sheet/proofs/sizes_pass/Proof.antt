@@ -19,9 +19,6 @@ Inv-loop n sheet i₀ i = (1 ≤ i) × ((k : ℕ) → k < i → StretchPasses n 
 abbrev μ-loop : tie.MeasureT-loop
 μ-loop n sheet i₀ i = n - i
 
-loop-holds : tie.Need-loop-holds Inv-loop μ-loop
-loop-holds c = (omega arith, below-more _ 0 (below-none _) no-stretch)
-
 -- Diagonal place i lies in the sheet, and so do n numbers before it.
 diagonal-inside : (c : tie.In-loop Inv-loop μ-loop) →
     let i = c .before .loop .i in
@@ -32,38 +29,8 @@ diagonal-inside c =
     let l = inside (c .loop-test .taken) (c .loop-test .taken) in
     (room-before _ _ (c .before .loop .inv .0), rw (h .held) (le-of-lt l), rw (h .held) (square-small (h .few)))
 
-mul-to : tie.Need-mul-to Inv-loop μ-loop
-mul-to c = omega (arith, diagonal-inside c)
-
-add-to : tie.Need-add-to Inv-loop μ-loop
-add-to c = omega (arith, diagonal-inside c)
-
-sub-from : tie.Need-sub-from Inv-loop μ-loop
-sub-from c = diagonal-inside c .0
-
-mul-stretch-passes : tie.Need-mul-stretch-passes Inv-loop μ-loop
-mul-stretch-passes c = omega (arith, diagonal-inside c)
-
-sub-stretch-passes : tie.Need-sub-stretch-passes Inv-loop μ-loop
-sub-stretch-passes c = omega arith
-
-part-stretch-passes-start : tie.Need-part-stretch-passes-start Inv-loop μ-loop
-part-stretch-passes-start c = omega arith
-
-part-stretch-passes-end : tie.Need-part-stretch-passes-end Inv-loop μ-loop
-part-stretch-passes-end c = diagonal-inside c .1
-
-stretch-passes-requires : tie.Need-stretch-passes-requires Inv-loop μ-loop
-stretch-passes-requires c κs = search needs
-
 returns : tie.Need-returns Inv-loop μ-loop
 returns c = λ e i j hi hj d. record { at = λ question reading k l f. cc }
-
-add-i : tie.Need-add-i Inv-loop μ-loop
-add-i c = omega arith
-
-loop-less : tie.Need-loop-less Inv-loop μ-loop
-loop-less c = omega arith
 
 loop-again : tie.Need-loop-again Inv-loop μ-loop
 loop-again c =
@@ -80,17 +47,17 @@ sizes-pass-spec =
     (tie.spec
     Inv-loop
     μ-loop
-    loop-holds
-    mul-to
-    add-to
-    sub-from
-    mul-stretch-passes
-    sub-stretch-passes
-    part-stretch-passes-start
-    part-stretch-passes-end
-    stretch-passes-requires
+    (λ c. (omega arith, below-more _ 0 (below-none _) no-stretch))
+    (λ c. omega (arith, diagonal-inside c))
+    (λ c. omega (arith, diagonal-inside c))
+    (λ c. diagonal-inside c .0)
+    (λ c. omega (arith, diagonal-inside c))
+    (λ c. omega arith)
+    (λ c. omega arith)
+    (λ c. diagonal-inside c .1)
+    (λ c κs. search needs)
     returns
-    add-i
-    loop-less
+    (λ c. omega arith)
+    (λ c. omega arith)
     loop-again
     returns-2)

@@ -18,31 +18,10 @@ Inv-loop part good₀ k₀ good k = (k ≤ length part) × (good ≡ true → (m
 abbrev μ-loop : tie.MeasureT-loop
 μ-loop part good₀ k₀ good k = length part - k
 
-loop-holds : tie.Need-loop-holds Inv-loop μ-loop
-loop-holds c = (zero-le, λ e m l. absurd (omega arith))
-
-mul-size-passes : tie.Need-mul-size-passes Inv-loop μ-loop
-mul-size-passes c = search needs
-
-shared-slice-read-size-passes : tie.Need-shared-slice-read-size-passes Inv-loop μ-loop
-shared-slice-read-size-passes c = search needs
-
-size-passes-requires : tie.Need-size-passes-requires Inv-loop μ-loop
-size-passes-requires c κs = search needs
-
-add-k : tie.Need-add-k Inv-loop μ-loop
-add-k c = search needs
-
-loop-less : tie.Need-loop-less Inv-loop μ-loop
-loop-less c = search needs
-
 loop-again : tie.Need-loop-again Inv-loop μ-loop
 loop-again c =
     let a = c .before .before .before .before .before .args in
     (omega arith, and-more (λ m. PassesOff (getD (now a.part) m nan)) _ _ _ (c .before .before .before .loop .inv .1) (c .size-passes .ensures))
-
-returns : tie.Need-returns Inv-loop μ-loop
-returns c = λ e k l. c .before .loop .inv .1 e k (omega arith)
 
 pub stretch-passes-spec : {M : Type 1} → statement M
 stretch-passes-spec =
@@ -50,11 +29,11 @@ stretch-passes-spec =
     (tie.spec
     Inv-loop
     μ-loop
-    loop-holds
-    mul-size-passes
-    shared-slice-read-size-passes
-    size-passes-requires
-    add-k
-    loop-less
+    (λ c. (zero-le, λ e m l. absurd (omega arith)))
+    (λ c. search needs)
+    (λ c. search needs)
+    (λ c κs. search needs)
+    (λ c. search needs)
+    (λ c. search needs)
     loop-again
-    returns)
+    (λ c. λ e k l. c .before .loop .inv .1 e k (omega arith)))

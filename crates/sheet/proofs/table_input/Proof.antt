@@ -8,12 +8,6 @@ use Rattle.sheet.proofs.Shape.{shape-ends, shape-goes-on, shape-passed}
 use Rattle.sheet.proofs.table_input.Statement.{statement}
 use Rattle.sheet.proofs.table_input.Tie as tie
 
-ask-shape-requires : tie.Need-ask-shape-requires
-ask-shape-requires c κs = search needs
-
-is-refusal-requires : tie.Need-is-refusal-requires
-is-refusal-requires c κs = search needs
-
 returns : tie.Need-returns
 unfolding tableInput
 returns c =
@@ -26,12 +20,6 @@ square : (c : tie.Else1) →
     let a = c .before .before .before .before .args in
     Square a.n (now a.sheet)
 square c = shape-passed _ _ _ (c .before .before .ask-shape .ensures) (c .before .is-refusal .ensures) (c .if1 .left)
-
-ask-room-requires : tie.Need-ask-room-requires
-ask-room-requires c κs = square c .few
-
-ask-numbers-requires : tie.Need-ask-numbers-requires
-ask-numbers-requires c κs = square (c .before)
 
 returns-2 : tie.Need-returns-2
 unfolding tableInput
@@ -47,9 +35,9 @@ pub table-input-spec : {M : Type 1} → statement M
 table-input-spec =
     tie.close
     (tie.spec
-    ask-shape-requires
-    is-refusal-requires
+    (λ c κs. search needs)
+    (λ c κs. search needs)
     returns
-    ask-room-requires
-    ask-numbers-requires
+    (λ c κs. square c .few)
+    (λ c κs. square (c .before))
     returns-2)

@@ -4,20 +4,5 @@ use borrow.Author.Tests.{lt-ltb, le-ltb}
 use Rattle.text.proofs.hexadecimal_digit.Statement.{statement}
 use Rattle.text.proofs.hexadecimal_digit.Tie as tie
 
-add-result : tie.Need-add-result
-add-result c = search needs
-
-returns : tie.Need-returns
-returns c = rw (lt-ltb (c .before .args .value) 10 (c .if1 .taken))
-
-sub-result : tie.Need-sub-result
-sub-result c = search needs
-
-add-result-2 : tie.Need-add-result-2
-add-result-2 c = search needs
-
-returns-2 : tie.Need-returns-2
-returns-2 c = rw (le-ltb (c .before .args .value) 10 (c .if1 .left))
-
 pub hexadecimal-digit-spec : {M : Type 1} → statement M
-hexadecimal-digit-spec = tie.close (tie.spec add-result returns sub-result add-result-2 returns-2)
+hexadecimal-digit-spec = tie.close (tie.spec (λ c. search needs) (λ c. rw (lt-ltb (c .before .args .value) 10 (c .if1 .taken))) (λ c. search needs) (λ c. search needs) (λ c. rw (le-ltb (c .before .args .value) 10 (c .if1 .left))))

@@ -22,23 +22,11 @@ Inv-loop bytes at out₀ k₀ next₀ out k next = (k ≤ length bytes) × Writt
 abbrev μ-loop : tie.MeasureT-loop
 μ-loop bytes at out₀ k₀ next₀ out k next = length bytes - k
 
-loop-holds : tie.Need-loop-holds Inv-loop μ-loop
-loop-holds c = (omega arith, written-nothing _ _)
-
-shared-slice-read-put-byte : tie.Need-shared-slice-read-put-byte Inv-loop μ-loop
-shared-slice-read-put-byte c = omega arith
-
 put-byte-requires : tie.Need-put-byte-requires Inv-loop μ-loop
 put-byte-requires c κs =
     let here = c .before .before in
     let start = here .before .before .before .before in
     byte-turn (start .args .bytes .now) (start .pre) (here .loop-test .taken) (here .before .loop .inv .1) .room
-
-add-k : tie.Need-add-k Inv-loop μ-loop
-add-k c = omega arith
-
-loop-less : tie.Need-loop-less Inv-loop μ-loop
-loop-less c = omega arith
 
 loop-again : tie.Need-loop-again Inv-loop μ-loop
 loop-again c =
@@ -60,11 +48,11 @@ put-bytes-spec =
     (tie.spec
     Inv-loop
     μ-loop
-    loop-holds
-    shared-slice-read-put-byte
+    (λ c. (omega arith, written-nothing _ _))
+    (λ c. omega arith)
     put-byte-requires
-    add-k
-    loop-less
+    (λ c. omega arith)
+    (λ c. omega arith)
     loop-again
     same-length
     returns)

@@ -20,36 +20,15 @@ Inv-loop value at out₀ end last₀ rest₀ out last rest =
 abbrev μ-loop : tie.MeasureT-loop
 μ-loop value at out₀ end last₀ rest₀ out last rest = rest
 
-digit-count-requires : tie.Need-digit-count-requires Inv-loop μ-loop
-digit-count-requires c κs = search needs
-
-add-end : tie.Need-add-end Inv-loop μ-loop
-add-end c = omega arith
-
-sub-last : tie.Need-sub-last Inv-loop μ-loop
-sub-last c = omega (arith, decimal-some (c .before .before .args .value))
-
 loop-holds : tie.Need-loop-holds Inv-loop μ-loop
 loop-holds c =
     let value = c .before .before .args .value in
     (omega arith, omega (arith, decimal-some value), omega (arith, decimal-some value), refl, refl)
 
-cast-out : tie.Need-cast-out Inv-loop μ-loop
-cast-out c = omega arith
-
-add-out : tie.Need-add-out Inv-loop μ-loop
-add-out c = omega arith
-
-slice-write-out : tie.Need-slice-write-out Inv-loop μ-loop
-slice-write-out c = omega arith
-
 sub-last-2 : tie.Need-sub-last-2 Inv-loop μ-loop
 sub-last-2 c =
     let rest = c .before .loop .rest in
     omega (arith, decimal-some (rest / 10), length-decimal-more rest (c .loop-test .taken) (omega arith))
-
-loop-less : tie.Need-loop-less Inv-loop μ-loop
-loop-less c = omega arith
 
 loop-again : tie.Need-loop-again Inv-loop μ-loop
 loop-again c =
@@ -67,18 +46,6 @@ loop-again c =
       pasted-last (decimal (rest / 10)) (decimal rest) _ at last _ (decimal-more rest (c .loop-test .taken) below) here (c .before .loop .inv .2)
           ∙ c .before .loop .inv .4,
     )
-
-cast-out-2 : tie.Need-cast-out-2 Inv-loop μ-loop
-cast-out-2 c = omega arith
-
-add-out-2 : tie.Need-add-out-2 Inv-loop μ-loop
-add-out-2 c = omega arith
-
-slice-write-out-2 : tie.Need-slice-write-out-2 Inv-loop μ-loop
-slice-write-out-2 c = omega arith
-
-same-length : tie.Need-same-length Inv-loop μ-loop
-same-length c = rw length-set (c .before .loop .inv .3)
 
 returns : tie.Need-returns Inv-loop μ-loop
 returns c =
@@ -100,18 +67,18 @@ put-decimal-spec =
     (tie.spec
     Inv-loop
     μ-loop
-    digit-count-requires
-    add-end
-    sub-last
+    (λ c κs. search needs)
+    (λ c. omega arith)
+    (λ c. omega (arith, decimal-some (c .before .before .args .value)))
     loop-holds
-    cast-out
-    add-out
-    slice-write-out
+    (λ c. omega arith)
+    (λ c. omega arith)
+    (λ c. omega arith)
     sub-last-2
-    loop-less
+    (λ c. omega arith)
     loop-again
-    cast-out-2
-    add-out-2
-    slice-write-out-2
-    same-length
+    (λ c. omega arith)
+    (λ c. omega arith)
+    (λ c. omega arith)
+    (λ c. rw length-set (c .before .loop .inv .3))
     returns)

@@ -25,9 +25,6 @@ bits c = hexadecimal 16 (c .to-word .result)
 room : (c : tie.After-to-word) → Room (row c ++ column c ++ bits c ++ (10 ∷ [])) (start c .args .at) (start c .args .out .now)
 room c = rw (entry-pieces (start c .args .row) (start c .args .column) (start c .args .x) (c .to-word .result) (c .to-word .ensures)) at (start c .pre)
 
-to-word-requires : tie.Need-to-word-requires
-to-word-requires c κs = search needs
-
 put-field-requires : tie.Need-put-field-requires
 put-field-requires c κs =
     let word = c .before in
@@ -54,9 +51,6 @@ put-byte-requires c κs =
     let word = first .before .before in
     room-4 (row word) (column word) (bits word) (10 ∷ []) (room word) (first .put-field .ensures) (second .put-field2 .ensures) (third .put-hexadecimal .ensures)
 
-same-length : tie.Need-same-length
-same-length c = search needs
-
 returns : tie.Need-returns
 returns c =
     let fourth = c .before .before in
@@ -72,10 +66,10 @@ pub put-entry-spec : {M : Type 1} → statement M
 put-entry-spec =
     tie.close
     (tie.spec
-    to-word-requires
+    (λ c κs. search needs)
     put-field-requires
     put-field-requires-2
     put-hexadecimal-requires
     put-byte-requires
-    same-length
+    (λ c. search needs)
     returns)

@@ -16,13 +16,10 @@ put-byte-requires c κs =
     let start = c .before .before .before .before .before .before in
     room-next (decimal (start .args .value)) (start .args .end ∷ []) (start .pre) (c .before .before .before .put-decimal .ensures)
 
-same-length : tie.Need-same-length
-same-length c = search needs
-
 returns : tie.Need-returns
 returns c =
     let start = c .before .before .before .before .before .before .before .before .before in
     written-next (decimal (start .args .value)) (start .args .end ∷ []) (start .pre) (c .before .before .before .before .before .before .put-decimal .ensures) (c .before .before .put-byte .ensures)
 
 pub put-field-spec : {M : Type 1} → statement M
-put-field-spec = tie.close (tie.spec put-decimal-requires put-byte-requires same-length returns)
+put-field-spec = tie.close (tie.spec put-decimal-requires put-byte-requires (λ c. search needs) returns)

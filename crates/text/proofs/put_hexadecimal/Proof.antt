@@ -21,27 +21,6 @@ abbrev μ-loop : tie.MeasureT-loop
 loop-holds : tie.Need-loop-holds Inv-loop μ-loop
 loop-holds c = (omega arith, omega (arith, length-hexadecimal 16 (c .before .args .word)), refl, refl)
 
-cast-hexadecimal-digit : tie.Need-cast-hexadecimal-digit Inv-loop μ-loop
-cast-hexadecimal-digit c = omega arith
-
-hexadecimal-digit-requires : tie.Need-hexadecimal-digit-requires Inv-loop μ-loop
-hexadecimal-digit-requires c κs = omega arith
-
-sub-out : tie.Need-sub-out Inv-loop μ-loop
-sub-out c = omega arith
-
-add-out : tie.Need-add-out Inv-loop μ-loop
-add-out c = omega arith
-
-slice-write-out : tie.Need-slice-write-out Inv-loop μ-loop
-slice-write-out c = omega arith
-
-sub-left : tie.Need-sub-left Inv-loop μ-loop
-sub-left c = omega arith
-
-loop-less : tie.Need-loop-less Inv-loop μ-loop
-loop-less c = omega arith
-
 loop-again : tie.Need-loop-again Inv-loop μ-loop
 loop-again c =
     let turn = c .before in
@@ -58,12 +37,6 @@ loop-again c =
           ∙ turn .before .loop .inv .3,
     )
 
-add-result : tie.Need-add-result Inv-loop μ-loop
-add-result c = omega arith
-
-same-length : tie.Need-same-length Inv-loop μ-loop
-same-length c = c .before .loop .inv .2
-
 returns : tie.Need-returns Inv-loop μ-loop
 returns c =
     let none : c .before .loop .left ≡ 0 = omega arith in
@@ -79,14 +52,14 @@ put-hexadecimal-spec =
     Inv-loop
     μ-loop
     loop-holds
-    cast-hexadecimal-digit
-    hexadecimal-digit-requires
-    sub-out
-    add-out
-    slice-write-out
-    sub-left
-    loop-less
+    (λ c. omega arith)
+    (λ c κs. omega arith)
+    (λ c. omega arith)
+    (λ c. omega arith)
+    (λ c. omega arith)
+    (λ c. omega arith)
+    (λ c. omega arith)
     loop-again
-    add-result
-    same-length
+    (λ c. omega arith)
+    (λ c. c .before .loop .inv .2)
     returns)

@@ -32,40 +32,16 @@ inside : (c : tie.In-loop Inv-loop μ-loop)
     → c .before .before .before .before .args .i * c .before .before .before .before .args .n + c .before .loop .j < length (c .before .before .before .before .args .answer .now)
 inside c = omega (arith, ends (c .before .before .before .before))
 
-mul-first : tie.Need-mul-first Inv-loop μ-loop
-mul-first c = omega (arith, ends (c .before .before))
-
 loop-holds : tie.Need-loop-holds Inv-loop μ-loop
 loop-holds c =
     let start = c .before .before in
     (omega arith, row-begun (place (start .args .n) (start .args .answer .now)) (start .args .i) (start .args .at) (start .args .out .now))
-
-add-put-entry : tie.Need-add-put-entry Inv-loop μ-loop
-add-put-entry c = omega arith
-
-add-put-entry-2 : tie.Need-add-put-entry-2 Inv-loop μ-loop
-add-put-entry-2 c = omega arith
-
-add-put-entry-3 : tie.Need-add-put-entry-3 Inv-loop μ-loop
-add-put-entry-3 c = omega (arith, inside c)
-
-mul-put-entry : tie.Need-mul-put-entry Inv-loop μ-loop
-mul-put-entry c = omega (arith, inside c)
-
-shared-slice-read-put-entry : tie.Need-shared-slice-read-put-entry Inv-loop μ-loop
-shared-slice-read-put-entry c = inside (c .before)
 
 put-entry-requires : tie.Need-put-entry-requires Inv-loop μ-loop
 put-entry-requires c κs =
     let here = c .before .before in
     let start = here .before .before .before .before in
     entry-turn (place (start .args .n) (start .args .answer .now)) (start .args .i) (start .args .n) (start .pre .2) (here .loop-test .taken) (here .before .loop .inv .1) .room
-
-add-j : tie.Need-add-j Inv-loop μ-loop
-add-j c = omega arith
-
-loop-less : tie.Need-loop-less Inv-loop μ-loop
-loop-less c = omega arith
 
 loop-again : tie.Need-loop-again Inv-loop μ-loop
 loop-again c =
@@ -88,16 +64,16 @@ put-row-spec =
     (tie.spec
     Inv-loop
     μ-loop
-    mul-first
+    (λ c. omega (arith, ends (c .before .before)))
     loop-holds
-    add-put-entry
-    add-put-entry-2
-    add-put-entry-3
-    mul-put-entry
-    shared-slice-read-put-entry
+    (λ c. omega arith)
+    (λ c. omega arith)
+    (λ c. omega (arith, inside c))
+    (λ c. omega (arith, inside c))
+    (λ c. inside (c .before))
     put-entry-requires
-    add-j
-    loop-less
+    (λ c. omega arith)
+    (λ c. omega arith)
     loop-again
     same-length
     returns)

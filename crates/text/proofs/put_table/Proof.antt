@@ -38,12 +38,6 @@ put-row-requires c κs =
       row-turn (place (start .args .n) (start .args .answer .now)) (start .args .n) (start .pre .1) (here .loop-test .taken) (here .before .loop .inv .1) .room,
     )
 
-add-i : tie.Need-add-i Inv-loop μ-loop
-add-i c = omega arith
-
-loop-less : tie.Need-loop-less Inv-loop μ-loop
-loop-less c = omega arith
-
 loop-again : tie.Need-loop-again Inv-loop μ-loop
 loop-again c =
     let here = c .before .before .before .before in
@@ -67,8 +61,8 @@ put-table-spec =
     μ-loop
     loop-holds
     put-row-requires
-    add-i
-    loop-less
+    (λ c. omega arith)
+    (λ c. omega arith)
     loop-again
     same-length
     returns)

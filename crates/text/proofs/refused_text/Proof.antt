@@ -26,12 +26,6 @@ room c =
     rw (refused-pieces (c .args .number) (c .args .row) (c .args .column))
     at (refused-room (c .args .number) (c .args .row) (c .args .column) (c .args .out .now) (omega arith) (omega arith) (omega arith) (c .pre))
 
-slice-aggregate-put-bytes : tie.Need-slice-aggregate-put-bytes
-slice-aggregate-put-bytes c = search needs
-
-put-bytes-requires : tie.Need-put-bytes-requires
-put-bytes-requires c κs = search needs
-
 put-field-requires : tie.Need-put-field-requires
 unfolding text
 put-field-requires c κs =
@@ -56,9 +50,6 @@ put-field-requires-3 c κs =
     let start = first .before .before .before .before in
     room-4 (text "refused ") (number start) (row start) (column start) (room start) (first .put-bytes .ensures) (second .put-field .ensures) (third .put-field2 .ensures)
 
-same-length : tie.Need-same-length
-same-length c = search needs
-
 returns : tie.Need-returns
 unfolding text
 returns c =
@@ -74,10 +65,10 @@ pub refused-text-spec : {M : Type 1} → statement M
 refused-text-spec =
     tie.close
     (tie.spec
-    slice-aggregate-put-bytes
-    put-bytes-requires
+    (λ c. search needs)
+    (λ c κs. search needs)
     put-field-requires
     put-field-requires-2
     put-field-requires-3
-    same-length
+    (λ c. search needs)
     returns)

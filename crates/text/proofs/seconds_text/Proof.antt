@@ -27,12 +27,6 @@ room c =
     rw (seconds-pieces (c .args .n) (c .args .allowance))
     at (seconds-room (c .args .n) (c .args .allowance) (place (c .args .n) (c .args .answer .now)) (c .args .out .now) (c .pre .0) (omega arith) (c .pre .2))
 
-slice-aggregate-put-bytes : tie.Need-slice-aggregate-put-bytes
-slice-aggregate-put-bytes c = search needs
-
-put-bytes-requires : tie.Need-put-bytes-requires
-put-bytes-requires c κs = search needs
-
 put-field-requires : tie.Need-put-field-requires
 unfolding text
 put-field-requires c κs =
@@ -59,9 +53,6 @@ put-table-requires c κs =
       room-4 (text "seconds ") (stages start) (allowed start) (table start) (room start) (first .put-bytes .ensures) (second .put-field .ensures) (third .put-field2 .ensures),
     )
 
-same-length : tie.Need-same-length
-same-length c = search needs
-
 returns : tie.Need-returns
 unfolding text
 returns c =
@@ -77,10 +68,10 @@ pub seconds-text-spec : {M : Type 1} → statement M
 seconds-text-spec =
     tie.close
     (tie.spec
-    slice-aggregate-put-bytes
-    put-bytes-requires
+    (λ c. search needs)
+    (λ c κs. search needs)
     put-field-requires
     put-field-requires-2
     put-table-requires
-    same-length
+    (λ c. search needs)
     returns)

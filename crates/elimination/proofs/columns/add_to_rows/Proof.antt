@@ -24,17 +24,8 @@ Inv-loop r k lo t b₀ ok₀ i₀ b ok i =
 abbrev μ-loop : tie.MeasureT-loop
 μ-loop r k lo t b₀ ok₀ i₀ b ok i = r - i
 
-add-i : tie.Need-add-i Inv-loop μ-loop
-add-i c = search needs
-
 loop-holds : tie.Need-loop-holds Inv-loop μ-loop
 loop-holds c = (search needs, down-begins (add-one (c .args .k)) (c .pre .3), told-begins (add-one (c .args .k)))
-
-get-requires : tie.Need-get-requires Inv-loop μ-loop
-get-requires c κs = search needs
-
-add-multiple-told : tie.Need-add-multiple-told Inv-loop μ-loop
-add-multiple-told c = search needs
 
 multiple-told-requires : tie.Need-multiple-told-requires Inv-loop μ-loop
 multiple-told-requires c κs =
@@ -44,19 +35,10 @@ multiple-told-requires c κs =
     let h = l .loop .inv .1 in
     (omega arith, omega arith, h .holds .long, rw (add-one k, down-else h k (λ a b. omega arith)) (s .pre .4))
 
-add-add-multiple : tie.Need-add-add-multiple Inv-loop μ-loop
-add-add-multiple c = search needs
-
 add-multiple-requires : tie.Need-add-multiple-requires Inv-loop μ-loop
 add-multiple-requires c κs =
     let h = c .before .before .before .before .before .loop .inv .1 in
     (omega arith, omega arith, (λ e. omega (arith, h .from)), omega arith, omega arith, h .holds .long)
-
-add-i-2 : tie.Need-add-i-2 Inv-loop μ-loop
-add-i-2 c = search needs
-
-loop-less : tie.Need-loop-less Inv-loop μ-loop
-loop-less c = search needs
 
 loop-again : tie.Need-loop-again Inv-loop μ-loop
 unfolding span
@@ -85,14 +67,14 @@ add-to-rows-spec =
     (tie.spec
     Inv-loop
     μ-loop
-    add-i
+    (λ c. search needs)
     loop-holds
-    get-requires
-    add-multiple-told
+    (λ c κs. search needs)
+    (λ c. search needs)
     multiple-told-requires
-    add-add-multiple
+    (λ c. search needs)
     add-multiple-requires
-    add-i-2
-    loop-less
+    (λ c. search needs)
+    (λ c. search needs)
     loop-again
     returns)

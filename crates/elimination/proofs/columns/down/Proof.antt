@@ -28,9 +28,6 @@ loop-holds : tie.Need-loop-holds Inv-loop μ-loop
 unfolding downDone
 loop-holds c = (search needs, record { long = c .pre .2; is = refl }, told-begins refl)
 
-add-least : tie.Need-add-least Inv-loop μ-loop
-add-least c = search needs
-
 least-requires : tie.Need-least-requires Inv-loop μ-loop
 unfolding ofBits
 least-requires c κs = (omega arith, omega arith, omega arith, c .before .before .loop .inv .1 .long, bound-one)
@@ -40,12 +37,6 @@ add-to-rows-requires c κs =
     let l = c .before .before .before .before in
     let s = l .before in
     (c .before .before .before .loop-test .taken, s .pre .0, s .pre .1, l .loop .inv .1 .long, rw (add-one (l .loop .k)) at (c .before .least .ensures .covering))
-
-add-k : tie.Need-add-k Inv-loop μ-loop
-add-k c = search needs
-
-loop-less : tie.Need-loop-less Inv-loop μ-loop
-loop-less c = search needs
 
 loop-again : tie.Need-loop-again Inv-loop μ-loop
 unfolding downDone
@@ -72,10 +63,10 @@ down-spec =
     Inv-loop
     μ-loop
     loop-holds
-    add-least
+    (λ c. search needs)
     least-requires
     add-to-rows-requires
-    add-k
-    loop-less
+    (λ c. search needs)
+    (λ c. search needs)
     loop-again
     returns)

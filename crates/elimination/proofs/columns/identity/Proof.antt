@@ -19,21 +19,6 @@ Inv-loop r b₀ i₀ b i = (i ≤ r) × Down 0 (λ l. between 0 r (identityRow l
 abbrev μ-loop : tie.MeasureT-loop
 μ-loop r b₀ i₀ b i = r - i
 
-loop-holds : tie.Need-loop-holds Inv-loop μ-loop
-loop-holds c = (search needs, down-begins refl (c .pre .1))
-
-clear-requires : tie.Need-clear-requires Inv-loop μ-loop
-clear-requires c κs = search needs
-
-put-requires : tie.Need-put-requires Inv-loop μ-loop
-put-requires c κs = search needs
-
-add-i : tie.Need-add-i Inv-loop μ-loop
-add-i c = search needs
-
-loop-less : tie.Need-loop-less Inv-loop μ-loop
-loop-less c = search needs
-
 loop-again : tie.Need-loop-again Inv-loop μ-loop
 unfolding ofBits
 loop-again c =
@@ -51,10 +36,10 @@ identity-spec =
     (tie.spec
     Inv-loop
     μ-loop
-    loop-holds
-    clear-requires
-    put-requires
-    add-i
-    loop-less
+    (λ c. (search needs, down-begins refl (c .pre .1)))
+    (λ c κs. search needs)
+    (λ c κs. search needs)
+    (λ c. search needs)
+    (λ c. search needs)
     loop-again
     returns)

@@ -31,9 +31,6 @@ loop-holds c =
     let f = table32 (s .b .now) in
     (omega arith, omega arith, downward-begins (s .r) g f refl (c .pre .2) bound-one, told-first (s .r) g f)
 
-sub-least : tie.Need-sub-least Inv-loop μ-loop
-sub-least c = search needs
-
 least-requires : tie.Need-least-requires Inv-loop μ-loop
 least-requires c κs =
     let h = c .before .before .loop .inv .2 in
@@ -54,12 +51,6 @@ descend-requires c κs =
     let h = l .loop .inv .2 in
     let n : l .loop .i < s .args .r = omega arith in
     (n, s .pre .0, s .pre .1, h .holds .long, downward-skips (s .args .r) (table32 (s .args .t .now)) (table32 (s .args .b .now)) (s .pre .3) (s .pre .4) (l .loop .i) n h)
-
-add-i : tie.Need-add-i Inv-loop μ-loop
-add-i c = search needs
-
-loop-less : tie.Need-loop-less Inv-loop μ-loop
-loop-less c = search needs
 
 loop-again : tie.Need-loop-again Inv-loop μ-loop
 loop-again c =
@@ -97,11 +88,11 @@ by-rows-spec =
     Inv-loop
     μ-loop
     loop-holds
-    sub-least
+    (λ c. search needs)
     least-requires
     descend-told-requires
     descend-requires
-    add-i
-    loop-less
+    (λ c. search needs)
+    (λ c. search needs)
     loop-again
     returns)

@@ -7,9 +7,6 @@ use Rattle.elimination.proofs.DescentLaws.{descend-joins, part-skips}
 use Rattle.elimination.proofs.descent.descend.Statement.{statement}
 use Rattle.elimination.proofs.descent.descend.Tie as tie
 
-descend-eights-requires : tie.Need-descend-eights-requires
-descend-eights-requires c κs = search needs
-
 descend-fours-requires : tie.Need-descend-fours-requires
 descend-fours-requires c κs =
     let eights = c .before in
@@ -41,4 +38,4 @@ returns c =
 pub descend-spec : {M : Type 1} → statement M
 descend-spec =
     tie.close
-    (tie.spec descend-eights-requires descend-fours-requires descend-ones-requires returns)
+    (tie.spec (λ c κs. search needs) descend-fours-requires descend-ones-requires returns)

@@ -17,12 +17,6 @@ Inv-loop r i t b₀ j₀ b j = (j ≤ r) × Along i 0 (descended (table32 t) (ta
 abbrev μ-loop : tie.MeasureT-loop
 μ-loop r i t b₀ j₀ b j = r - j
 
-loop-holds : tie.Need-loop-holds Inv-loop μ-loop
-loop-holds c = (search needs, along-begins refl (c .pre .3))
-
-add-loop : tie.Need-add-loop Inv-loop μ-loop
-add-loop c = search needs
-
 descend-eight-requires : tie.Need-descend-eight-requires Inv-loop μ-loop
 descend-eight-requires c κs =
     let l = c .before .before .before in
@@ -30,23 +24,11 @@ descend-eight-requires c κs =
     let h = l .loop .inv .1 in
     (omega arith, omega (arith, ltb-true (l .loop .j) (s .args .i) (c .before .if1 .taken)), omega arith, s .pre .2, h .holds .long, part-skips (table32 (s .args .t .now)) h (l .loop .j + 8) (omega arith) (s .pre .4))
 
-add-j : tie.Need-add-j Inv-loop μ-loop
-add-j c = search needs
-
-loop-less : tie.Need-loop-less Inv-loop μ-loop
-loop-less c = search needs
-
 loop-again : tie.Need-loop-again Inv-loop μ-loop
 loop-again c =
     let l = c .before .before .before .before in
     let s = l .before .args in
     (omega arith, descend-joins (table32 (s .t .now)) (l .loop .inv .1) (c .descend-eight .ensures) (omega arith))
-
-returns : tie.Need-returns Inv-loop μ-loop
-returns c = let v = c .before .before .loop .inv in (v .0, v .1 .holds)
-
-returns-2 : tie.Need-returns-2 Inv-loop μ-loop
-returns-2 c = let v = c .before .loop .inv in (v .0, v .1 .holds)
 
 pub descend-eights-spec : {M : Type 1} → statement M
 descend-eights-spec =
@@ -54,11 +36,11 @@ descend-eights-spec =
     (tie.spec
     Inv-loop
     μ-loop
-    loop-holds
-    add-loop
+    (λ c. (search needs, along-begins refl (c .pre .3)))
+    (λ c. search needs)
     descend-eight-requires
-    add-j
-    loop-less
+    (λ c. search needs)
+    (λ c. search needs)
     loop-again
-    returns
-    returns-2)
+    (λ c. let v = c .before .before .loop .inv in (v .0, v .1 .holds))
+    (λ c. let v = c .before .loop .inv in (v .0, v .1 .holds)))

@@ -22,27 +22,6 @@ Inv-loop i j t b a0₀ a1₀ a2₀ a3₀ k₀ a0 a1 a2 a3 k =
 abbrev μ-loop : tie.MeasureT-loop
 μ-loop i j t b a0₀ a1₀ a2₀ a3₀ k₀ a0 a1 a2 a3 k = i - k
 
-get-requires : tie.Need-get-requires Inv-loop μ-loop
-get-requires c κs = search needs
-
-add-get : tie.Need-add-get Inv-loop μ-loop
-add-get c = search needs
-
-get-requires-2 : tie.Need-get-requires-2 Inv-loop μ-loop
-get-requires-2 c κs = search needs
-
-add-get-2 : tie.Need-add-get-2 Inv-loop μ-loop
-add-get-2 c = search needs
-
-get-requires-3 : tie.Need-get-requires-3 Inv-loop μ-loop
-get-requires-3 c κs = search needs
-
-add-get-3 : tie.Need-add-get-3 Inv-loop μ-loop
-add-get-3 c = search needs
-
-get-requires-4 : tie.Need-get-requires-4 Inv-loop μ-loop
-get-requires-4 c κs = search needs
-
 loop-holds : tie.Need-loop-holds Inv-loop μ-loop
 loop-holds c =
     let a3 = c .before .before in
@@ -57,36 +36,6 @@ loop-holds c =
       descend-begins (p .5) (p .1) (s .args .j + 2) (omega arith) (omega arith) (a3 .get3 .ensures),
       descend-begins (p .5) (p .1) (s .args .j + 3) (omega arith) (omega arith) (c .get4 .ensures),
     )
-
-get-requires-5 : tie.Need-get-requires-5 Inv-loop μ-loop
-get-requires-5 c κs = search needs
-
-get-requires-6 : tie.Need-get-requires-6 Inv-loop μ-loop
-get-requires-6 c κs = search needs
-
-add-get-4 : tie.Need-add-get-4 Inv-loop μ-loop
-add-get-4 c = search needs
-
-get-requires-7 : tie.Need-get-requires-7 Inv-loop μ-loop
-get-requires-7 c κs = search needs
-
-add-get-5 : tie.Need-add-get-5 Inv-loop μ-loop
-add-get-5 c = search needs
-
-get-requires-8 : tie.Need-get-requires-8 Inv-loop μ-loop
-get-requires-8 c κs = search needs
-
-add-get-6 : tie.Need-add-get-6 Inv-loop μ-loop
-add-get-6 c = search needs
-
-get-requires-9 : tie.Need-get-requires-9 Inv-loop μ-loop
-get-requires-9 c κs = search needs
-
-add-k : tie.Need-add-k Inv-loop μ-loop
-add-k c = search needs
-
-loop-less : tie.Need-loop-less Inv-loop μ-loop
-loop-less c = search needs
 
 loop-again : tie.Need-loop-again Inv-loop μ-loop
 loop-again c =
@@ -103,27 +52,6 @@ loop-again c =
       staged-turns (v .4) m (a3 .get8 .ensures),
       staged-turns (v .5) m (c .get9 .ensures),
     )
-
-put-requires : tie.Need-put-requires Inv-loop μ-loop
-put-requires c κs = search needs
-
-add-put : tie.Need-add-put Inv-loop μ-loop
-add-put c = search needs
-
-put-requires-2 : tie.Need-put-requires-2 Inv-loop μ-loop
-put-requires-2 c κs = search needs
-
-add-put-2 : tie.Need-add-put-2 Inv-loop μ-loop
-add-put-2 c = search needs
-
-put-requires-3 : tie.Need-put-requires-3 Inv-loop μ-loop
-put-requires-3 c κs = search needs
-
-add-put-3 : tie.Need-add-put-3 Inv-loop μ-loop
-add-put-3 c = search needs
-
-put-requires-4 : tie.Need-put-requires-4 Inv-loop μ-loop
-put-requires-4 c κs = search needs
 
 returns : tie.Need-returns Inv-loop μ-loop
 returns c =
@@ -152,30 +80,30 @@ descend-four-spec =
     (tie.spec
     Inv-loop
     μ-loop
-    get-requires
-    add-get
-    get-requires-2
-    add-get-2
-    get-requires-3
-    add-get-3
-    get-requires-4
+    (λ c κs. search needs)
+    (λ c. search needs)
+    (λ c κs. search needs)
+    (λ c. search needs)
+    (λ c κs. search needs)
+    (λ c. search needs)
+    (λ c κs. search needs)
     loop-holds
-    get-requires-5
-    get-requires-6
-    add-get-4
-    get-requires-7
-    add-get-5
-    get-requires-8
-    add-get-6
-    get-requires-9
-    add-k
-    loop-less
+    (λ c κs. search needs)
+    (λ c κs. search needs)
+    (λ c. search needs)
+    (λ c κs. search needs)
+    (λ c. search needs)
+    (λ c κs. search needs)
+    (λ c. search needs)
+    (λ c κs. search needs)
+    (λ c. search needs)
+    (λ c. search needs)
     loop-again
-    put-requires
-    add-put
-    put-requires-2
-    add-put-2
-    put-requires-3
-    add-put-3
-    put-requires-4
+    (λ c κs. search needs)
+    (λ c. search needs)
+    (λ c κs. search needs)
+    (λ c. search needs)
+    (λ c κs. search needs)
+    (λ c. search needs)
+    (λ c κs. search needs)
     returns)

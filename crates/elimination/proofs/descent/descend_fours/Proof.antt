@@ -17,24 +17,12 @@ Inv-loop r i from t b₀ j₀ b j = (j ≤ r) × Along i from (descended (table3
 abbrev μ-loop : tie.MeasureT-loop
 μ-loop r i from t b₀ j₀ b j = r - j
 
-loop-holds : tie.Need-loop-holds Inv-loop μ-loop
-loop-holds c = (search needs, along-begins refl (c .pre .4))
-
-add-loop : tie.Need-add-loop Inv-loop μ-loop
-add-loop c = search needs
-
 descend-four-requires : tie.Need-descend-four-requires Inv-loop μ-loop
 descend-four-requires c κs =
     let l = c .before .before .before in
     let s = l .before in
     let h = l .loop .inv .1 in
     (omega arith, omega (arith, ltb-true (l .loop .j) (s .args .i) (c .before .if1 .taken)), omega arith, s .pre .3, h .holds .long, part-skips (table32 (s .args .t .now)) h (l .loop .j + 4) (omega arith) (s .pre .5))
-
-add-j : tie.Need-add-j Inv-loop μ-loop
-add-j c = search needs
-
-loop-less : tie.Need-loop-less Inv-loop μ-loop
-loop-less c = search needs
 
 loop-again : tie.Need-loop-again Inv-loop μ-loop
 loop-again c =
@@ -54,11 +42,11 @@ descend-fours-spec =
     (tie.spec
     Inv-loop
     μ-loop
-    loop-holds
-    add-loop
+    (λ c. (search needs, along-begins refl (c .pre .4)))
+    (λ c. search needs)
     descend-four-requires
-    add-j
-    loop-less
+    (λ c. search needs)
+    (λ c. search needs)
     loop-again
     returns
     returns-2)

@@ -19,9 +19,6 @@ Inv-loop i j t b a0₀ k₀ a0 k =
 abbrev μ-loop : tie.MeasureT-loop
 μ-loop i j t b a0₀ k₀ a0 k = i - k
 
-get-requires : tie.Need-get-requires Inv-loop μ-loop
-get-requires c κs = search needs
-
 loop-holds : tie.Need-loop-holds Inv-loop μ-loop
 loop-holds c =
     let s = c .before .before in
@@ -30,18 +27,6 @@ loop-holds c =
       p .1,
       descend-begins (p .5) (p .1) (s .args .j) (omega arith) (omega arith) (c .get .ensures),
     )
-
-get-requires-2 : tie.Need-get-requires-2 Inv-loop μ-loop
-get-requires-2 c κs = search needs
-
-get-requires-3 : tie.Need-get-requires-3 Inv-loop μ-loop
-get-requires-3 c κs = search needs
-
-add-k : tie.Need-add-k Inv-loop μ-loop
-add-k c = search needs
-
-loop-less : tie.Need-loop-less Inv-loop μ-loop
-loop-less c = search needs
 
 loop-again : tie.Need-loop-again Inv-loop μ-loop
 loop-again c =
@@ -52,9 +37,6 @@ loop-again c =
       omega arith,
       staged-turns (v .2) m (c .get3 .ensures),
     )
-
-put-requires : tie.Need-put-requires Inv-loop μ-loop
-put-requires c κs = search needs
 
 returns : tie.Need-returns Inv-loop μ-loop
 returns c =
@@ -74,12 +56,12 @@ descend-one-spec =
     (tie.spec
     Inv-loop
     μ-loop
-    get-requires
+    (λ c κs. search needs)
     loop-holds
-    get-requires-2
-    get-requires-3
-    add-k
-    loop-less
+    (λ c κs. search needs)
+    (λ c κs. search needs)
+    (λ c. search needs)
+    (λ c. search needs)
     loop-again
-    put-requires
+    (λ c κs. search needs)
     returns)

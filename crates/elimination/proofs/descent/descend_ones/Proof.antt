@@ -16,21 +16,12 @@ Inv-loop r i from t b₀ j₀ b j = (j ≤ r) × Along i from (descended (table3
 abbrev μ-loop : tie.MeasureT-loop
 μ-loop r i from t b₀ j₀ b j = i - j
 
-loop-holds : tie.Need-loop-holds Inv-loop μ-loop
-loop-holds c = (search needs, along-begins refl (c .pre .4))
-
 descend-one-requires : tie.Need-descend-one-requires Inv-loop μ-loop
 descend-one-requires c κs =
     let l = c .before .before in
     let s = l .before in
     let h = l .loop .inv .1 in
     (omega arith, omega arith, omega arith, s .pre .3, h .holds .long, part-skips (table32 (s .args .t .now)) h (l .loop .j + 1) (omega arith) (s .pre .5))
-
-add-j : tie.Need-add-j Inv-loop μ-loop
-add-j c = search needs
-
-loop-less : tie.Need-loop-less Inv-loop μ-loop
-loop-less c = search needs
 
 loop-again : tie.Need-loop-again Inv-loop μ-loop
 loop-again c =
@@ -47,4 +38,4 @@ returns c =
 pub descend-ones-spec : {M : Type 1} → statement M
 descend-ones-spec =
     tie.close
-    (tie.spec Inv-loop μ-loop loop-holds descend-one-requires add-j loop-less loop-again returns)
+    (tie.spec Inv-loop μ-loop (λ c. (search needs, along-begins refl (c .pre .4))) descend-one-requires (λ c. search needs) (λ c. search needs) loop-again returns)

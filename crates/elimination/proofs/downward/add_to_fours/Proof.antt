@@ -16,14 +16,8 @@ Inv-loop r k y t₀ i₀ t i = (i ≤ r) × Down (suc k) (summedRow k r (table32
 abbrev μ-loop : tie.MeasureT-loop
 μ-loop r k y t₀ i₀ t i = r - i
 
-add-i : tie.Need-add-i Inv-loop μ-loop
-add-i c = search needs
-
 loop-holds : tie.Need-loop-holds Inv-loop μ-loop
 loop-holds c = (search needs, down-begins (add-one (c .args .k)) (c .pre .2))
-
-add-loop : tie.Need-add-loop Inv-loop μ-loop
-add-loop c = search needs
 
 add-to-four-requires : tie.Need-add-to-four-requires Inv-loop μ-loop
 add-to-four-requires c κs =
@@ -31,12 +25,6 @@ add-to-four-requires c κs =
     let h = l .loop .inv .1 in
     let p = l .before .pre in
     (omega arith, p .0, p .1, h .holds .long, rw (down-else h (l .before .args .k) (λ l m. omega arith)) (p .3))
-
-add-i-2 : tie.Need-add-i-2 Inv-loop μ-loop
-add-i-2 c = search needs
-
-loop-less : tie.Need-loop-less Inv-loop μ-loop
-loop-less c = search needs
 
 loop-again : tie.Need-loop-again Inv-loop μ-loop
 loop-again c =
@@ -53,11 +41,11 @@ add-to-fours-spec =
     (tie.spec
     Inv-loop
     μ-loop
-    add-i
+    (λ c. search needs)
     loop-holds
-    add-loop
+    (λ c. search needs)
     add-to-four-requires
-    add-i-2
-    loop-less
+    (λ c. search needs)
+    (λ c. search needs)
     loop-again
     returns)

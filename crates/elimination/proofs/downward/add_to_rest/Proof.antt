@@ -17,21 +17,12 @@ Inv-loop r k from y t₀ i₀ t i = (i ≤ r) × Down from (summedRow k r (table
 abbrev μ-loop : tie.MeasureT-loop
 μ-loop r k from y t₀ i₀ t i = r - i
 
-loop-holds : tie.Need-loop-holds Inv-loop μ-loop
-loop-holds c = (search needs, down-begins refl (c .pre .3))
-
 add-to-one-requires : tie.Need-add-to-one-requires Inv-loop μ-loop
 add-to-one-requires c κs =
     let l = c .before .before in
     let h = l .loop .inv .1 in
     let p = l .before .pre in
     (omega arith, omega arith, p .2, h .holds .long, rw (down-else h (l .before .args .k) (λ l m. omega arith)) (p .4))
-
-add-i : tie.Need-add-i Inv-loop μ-loop
-add-i c = search needs
-
-loop-less : tie.Need-loop-less Inv-loop μ-loop
-loop-less c = search needs
 
 loop-again : tie.Need-loop-again Inv-loop μ-loop
 loop-again c =
@@ -47,4 +38,4 @@ returns c = down-ends (c .before .loop .inv .1) (omega arith) (omega arith)
 pub add-to-rest-spec : {M : Type 1} → statement M
 add-to-rest-spec =
     tie.close
-    (tie.spec Inv-loop μ-loop loop-holds add-to-one-requires add-i loop-less loop-again returns)
+    (tie.spec Inv-loop μ-loop (λ c. (search needs, down-begins refl (c .pre .3))) add-to-one-requires (λ c. search needs) (λ c. search needs) loop-again returns)

@@ -15,23 +15,8 @@ Inv-loop r k t s p₀ j₀ p j = (j ≤ r) × Summed (table32 t k k) (table32 t 
 abbrev μ-loop : tie.MeasureT-loop
 μ-loop r k t s p₀ j₀ p j = r - j
 
-get-requires : tie.Need-get-requires Inv-loop μ-loop
-get-requires c κs = search needs
-
-add-j : tie.Need-add-j Inv-loop μ-loop
-add-j c = search needs
-
 loop-holds : tie.Need-loop-holds Inv-loop μ-loop
 loop-holds c = (search needs, summed-begins (add-one (c .before .args .k)) (c .get .ensures))
-
-get-requires-2 : tie.Need-get-requires-2 Inv-loop μ-loop
-get-requires-2 c κs = search needs
-
-add-j-2 : tie.Need-add-j-2 Inv-loop μ-loop
-add-j-2 c = search needs
-
-loop-less : tie.Need-loop-less Inv-loop μ-loop
-loop-less c = search needs
 
 loop-again : tie.Need-loop-again Inv-loop μ-loop
 loop-again c = (omega arith, summed-turns (c .before .before .loop .inv .1) (c .get2 .ensures))
@@ -46,11 +31,11 @@ begin-spec =
     (tie.spec
     Inv-loop
     μ-loop
-    get-requires
-    add-j
+    (λ c κs. search needs)
+    (λ c. search needs)
     loop-holds
-    get-requires-2
-    add-j-2
-    loop-less
+    (λ c κs. search needs)
+    (λ c. search needs)
+    (λ c. search needs)
     loop-again
     returns)

@@ -14,30 +14,12 @@ Inv-loop r k t y₀ j₀ y j = (suc k ≤ j) × (j ≤ r) × Part y (table32 t k
 abbrev μ-loop : tie.MeasureT-loop
 μ-loop r k t y₀ j₀ y j = r - j
 
-add-j : tie.Need-add-j Inv-loop μ-loop
-add-j c = search needs
-
 loop-holds : tie.Need-loop-holds Inv-loop μ-loop
 loop-holds c = (omega arith, search needs, part-begins (c .pre .3) (omega arith))
-
-get-requires : tie.Need-get-requires Inv-loop μ-loop
-get-requires c κs = search needs
-
-put-requires : tie.Need-put-requires Inv-loop μ-loop
-put-requires c κs = search needs
-
-add-j-2 : tie.Need-add-j-2 Inv-loop μ-loop
-add-j-2 c = search needs
-
-loop-less : tie.Need-loop-less Inv-loop μ-loop
-loop-less c = search needs
 
 loop-again : tie.Need-loop-again Inv-loop μ-loop
 loop-again c =
     (omega arith, omega arith, part-turns (c .before .before .before .before .loop .inv .2) (c .put .ensures) (c .before .before .get .ensures))
-
-returns : tie.Need-returns Inv-loop μ-loop
-returns c = part-ends (c .before .loop .inv .2) (omega arith)
 
 pub copy-row-spec : {M : Type 1} → statement M
 copy-row-spec =
@@ -45,11 +27,11 @@ copy-row-spec =
     (tie.spec
     Inv-loop
     μ-loop
-    add-j
+    (λ c. search needs)
     loop-holds
-    get-requires
-    put-requires
-    add-j-2
-    loop-less
+    (λ c κs. search needs)
+    (λ c κs. search needs)
+    (λ c. search needs)
+    (λ c. search needs)
     loop-again
-    returns)
+    (λ c. part-ends (c .before .loop .inv .2) (omega arith)))

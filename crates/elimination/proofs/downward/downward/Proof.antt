@@ -16,23 +16,8 @@ Inv-loop r t₀ count ok₀ k₀ t ok k =
 abbrev μ-loop : tie.MeasureT-loop
 μ-loop r t₀ count ok₀ k₀ t ok k = r - k
 
-wide-count-requires : tie.Need-wide-count-requires Inv-loop μ-loop
-wide-count-requires c κs = search needs
-
-wide-stages-requires : tie.Need-wide-stages-requires Inv-loop μ-loop
-wide-stages-requires c κs = search needs
-
 loop-holds : tie.Need-loop-holds Inv-loop μ-loop
 loop-holds c = (search needs, c .wide-stages .ensures .holds .long, λ f h. h)
-
-eliminate-requires : tie.Need-eliminate-requires Inv-loop μ-loop
-eliminate-requires c κs = search needs
-
-add-k : tie.Need-add-k Inv-loop μ-loop
-add-k c = search needs
-
-loop-less : tie.Need-loop-less Inv-loop μ-loop
-loop-less c = search needs
 
 loop-again : tie.Need-loop-again Inv-loop μ-loop
 loop-again c = (omega arith, c .eliminate .ensures .holds .long, λ f h. stages-turn (c .before .before .before .loop .inv .2 f h) (c .eliminate .ensures))
@@ -48,11 +33,11 @@ downward-spec =
     (tie.spec
     Inv-loop
     μ-loop
-    wide-count-requires
-    wide-stages-requires
+    (λ c κs. search needs)
+    (λ c κs. search needs)
     loop-holds
-    eliminate-requires
-    add-k
-    loop-less
+    (λ c κs. search needs)
+    (λ c. search needs)
+    (λ c. search needs)
     loop-again
     returns)

@@ -8,12 +8,6 @@ use Rattle.elimination.proofs.DownwardLaws.{stage-eliminated}
 use Rattle.elimination.proofs.downward.eliminate.Statement.{statement}
 use Rattle.elimination.proofs.downward.eliminate.Tie as tie
 
-begin-requires : tie.Need-begin-requires
-begin-requires c κs = search needs
-
-pivot-told-requires : tie.Need-pivot-told-requires
-pivot-told-requires c κs = search needs
-
 least-requires : tie.Need-least-requires
 unfolding ofBits
 least-requires c κs =
@@ -27,9 +21,6 @@ eliminate-rows-requires c κs =
     let p = b .before .before .pre in
     (p .0, p .1, p .2, b .begin .ensures .sum, l .least .ensures .covering)
 
-put-requires : tie.Need-put-requires
-put-requires c κs = search needs
-
 returns : tie.Need-returns
 returns c =
     let rows = c .before .before in
@@ -42,9 +33,9 @@ pub eliminate-spec : {M : Type 1} → statement M
 eliminate-spec =
     tie.close
     (tie.spec
-    begin-requires
-    pivot-told-requires
+    (λ c κs. search needs)
+    (λ c κs. search needs)
     least-requires
     eliminate-rows-requires
-    put-requires
+    (λ c κs. search needs)
     returns)

@@ -6,12 +6,6 @@ use borrow.Author.Needs.{needs}
 use Rattle.elimination.proofs.downward.eliminate_by_fours.Statement.{statement}
 use Rattle.elimination.proofs.downward.eliminate_by_fours.Tie as tie
 
-copy-row-requires : tie.Need-copy-row-requires
-copy-row-requires c κs = search needs
-
-multipliers-requires : tie.Need-multipliers-requires
-multipliers-requires c κs = search needs
-
 add-to-fours-requires : tie.Need-add-to-fours-requires
 add-to-fours-requires c κs =
     let m = c .before .before in
@@ -30,9 +24,6 @@ add-to-rest-requires c κs =
     let h = m .multipliers .ensures .finds .holds in
     let g = fours .add-to-fours .ensures in
     (g .0, g .1, s .pre .1, g .2 .long, copied-summed (s .args .k) (s .args .r) (s .args .stage .p) (table32 (s .args .t .now)) (copy .copy-row .ensures) h (fours .add-to-fours .result) (g .2))
-
-put-rates-requires : tie.Need-put-rates-requires
-put-rates-requires c κs = search needs
 
 returns : tie.Need-returns
 returns c =
@@ -54,9 +45,9 @@ pub eliminate-by-fours-spec : {M : Type 1} → statement M
 eliminate-by-fours-spec =
     tie.close
     (tie.spec
-    copy-row-requires
-    multipliers-requires
+    (λ c κs. search needs)
+    (λ c κs. search needs)
     add-to-fours-requires
     add-to-rest-requires
-    put-rates-requires
+    (λ c κs. search needs)
     returns)

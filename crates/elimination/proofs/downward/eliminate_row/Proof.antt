@@ -5,29 +5,11 @@ use Rattle.elimination.proofs.DownwardLaws.{row-eliminated}
 use Rattle.elimination.proofs.downward.eliminate_row.Statement.{statement}
 use Rattle.elimination.proofs.downward.eliminate_row.Tie as tie
 
-get-requires : tie.Need-get-requires
-get-requires c κs = search needs
-
 row-told-requires : tie.Need-row-told-requires
 row-told-requires c κs =
     let g = c .before .before in
     let p = g .before .before .pre in
     (p .0, p .1, p .2, p .3, p .4, rw (g .get .ensures), p .5)
-
-get-requires-2 : tie.Need-get-requires-2
-get-requires-2 c κs = search needs
-
-add-add-multiple : tie.Need-add-add-multiple
-add-add-multiple c = search needs
-
-add-multiple-requires : tie.Need-add-multiple-requires
-add-multiple-requires c κs = search needs
-
-put-requires : tie.Need-put-requires
-put-requires c κs = search needs
-
-put-requires-2 : tie.Need-put-requires-2
-put-requires-2 c κs = search needs
 
 returns : tie.Need-returns
 returns c =
@@ -47,11 +29,11 @@ pub eliminate-row-spec : {M : Type 1} → statement M
 eliminate-row-spec =
     tie.close
     (tie.spec
-    get-requires
+    (λ c κs. search needs)
     row-told-requires
-    get-requires-2
-    add-add-multiple
-    add-multiple-requires
-    put-requires
-    put-requires-2
+    (λ c κs. search needs)
+    (λ c. search needs)
+    (λ c κs. search needs)
+    (λ c κs. search needs)
+    (λ c κs. search needs)
     returns)

@@ -22,9 +22,6 @@ Inv-loop r k stage lo t₀ ok₀ i₀ t ok i =
 abbrev μ-loop : tie.MeasureT-loop
 μ-loop r k stage lo t₀ ok₀ i₀ t ok i = r - i
 
-add-i : tie.Need-add-i Inv-loop μ-loop
-add-i c = search needs
-
 loop-holds : tie.Need-loop-holds Inv-loop μ-loop
 loop-holds c = (search needs, down-begins (add-one (c .args .k)) (c .pre .2), told-begins (add-one (c .args .k)))
 
@@ -35,12 +32,6 @@ eliminate-row-requires c κs =
     let p = l .before .pre in
     let e = down-else h (l .before .args .k) (λ l m. omega arith) in
     (h .from, c .before .loop-test .taken, p .1, h .holds .long, rw e (p .3), rw e (p .4))
-
-add-i-2 : tie.Need-add-i-2 Inv-loop μ-loop
-add-i-2 c = search needs
-
-loop-less : tie.Need-loop-less Inv-loop μ-loop
-loop-less c = search needs
 
 loop-again : tie.Need-loop-again Inv-loop μ-loop
 loop-again c =
@@ -68,10 +59,10 @@ eliminate-singly-spec =
     (tie.spec
     Inv-loop
     μ-loop
-    add-i
+    (λ c. search needs)
     loop-holds
     eliminate-row-requires
-    add-i-2
-    loop-less
+    (λ c. search needs)
+    (λ c. search needs)
     loop-again
     returns)

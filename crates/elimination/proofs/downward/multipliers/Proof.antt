@@ -27,14 +27,8 @@ Inv-loop r k stage lo t₀ rates₀ ok₀ i₀ t rates ok i =
 abbrev μ-loop : tie.MeasureT-loop
 μ-loop r k stage lo t₀ rates₀ ok₀ i₀ t rates ok i = r - i
 
-add-i : tie.Need-add-i Inv-loop μ-loop
-add-i c = search needs
-
 loop-holds : tie.Need-loop-holds Inv-loop μ-loop
 loop-holds c = (search needs, down-begins (add-one (c .args .k)) (c .pre .2), told-begins (add-one (c .args .k)), part-begins (c .pre .3) (omega arith))
-
-get-requires : tie.Need-get-requires Inv-loop μ-loop
-get-requires c κs = search needs
 
 row-told-requires : tie.Need-row-told-requires Inv-loop μ-loop
 row-told-requires c κs =
@@ -44,21 +38,6 @@ row-told-requires c κs =
     let p = l .before .pre in
     let e = down-else h (l .before .args .k) (λ l m. omega arith) in
     (h .from, g .before .before .loop-test .taken, p .1, h .holds .long, rw e (p .4), rw (g .get .ensures), rw e (p .5))
-
-get-requires-2 : tie.Need-get-requires-2 Inv-loop μ-loop
-get-requires-2 c κs = search needs
-
-put-requires : tie.Need-put-requires Inv-loop μ-loop
-put-requires c κs = search needs
-
-put-requires-2 : tie.Need-put-requires-2 Inv-loop μ-loop
-put-requires-2 c κs = search needs
-
-add-i-2 : tie.Need-add-i-2 Inv-loop μ-loop
-add-i-2 c = search needs
-
-loop-less : tie.Need-loop-less Inv-loop μ-loop
-loop-less c = search needs
 
 loop-again : tie.Need-loop-again Inv-loop μ-loop
 unfolding multiplierRow leavingRate
@@ -93,14 +72,14 @@ multipliers-spec =
     (tie.spec
     Inv-loop
     μ-loop
-    add-i
+    (λ c. search needs)
     loop-holds
-    get-requires
+    (λ c κs. search needs)
     row-told-requires
-    get-requires-2
-    put-requires
-    put-requires-2
-    add-i-2
-    loop-less
+    (λ c κs. search needs)
+    (λ c κs. search needs)
+    (λ c κs. search needs)
+    (λ c. search needs)
+    (λ c. search needs)
     loop-again
     returns)

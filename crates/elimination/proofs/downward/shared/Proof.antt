@@ -4,12 +4,6 @@ use Rattle.elimination.proofs.EngineLaws.{shared-gives}
 use Rattle.elimination.proofs.downward.shared.Statement.{statement}
 use Rattle.elimination.proofs.downward.shared.Tie as tie
 
-downward-requires : tie.Need-downward-requires
-downward-requires c κs = search needs
-
-upward-rows-requires : tie.Need-upward-rows-requires
-upward-rows-requires c κs = search needs
-
 returns : tie.Need-returns
 returns c =
     let d = c .before .before in
@@ -18,4 +12,4 @@ returns c =
 
 pub shared-spec : {M : Type 1} → statement M
 shared-spec =
-    tie.close (tie.spec downward-requires upward-rows-requires returns)
+    tie.close (tie.spec (λ c κs. search needs) (λ c κs. search needs) returns)

@@ -19,29 +19,8 @@ Inv-loop r i p t₀ ok₀ k₀ t ok k = (k ≤ r) × Along i (suc i) (overPivot 
 abbrev μ-loop : tie.MeasureT-loop
 μ-loop r i p t₀ ok₀ k₀ t ok k = r - k
 
-add-k : tie.Need-add-k Inv-loop μ-loop
-add-k c = search needs
-
 loop-holds : tie.Need-loop-holds Inv-loop μ-loop
 loop-holds c = (search needs, along-begins (add-one (c .args .i)) (c .pre .3), gathered-begins (add-one (c .args .i)))
-
-get-requires : tie.Need-get-requires Inv-loop μ-loop
-get-requires c κs = search needs
-
-get-requires-2 : tie.Need-get-requires-2 Inv-loop μ-loop
-get-requires-2 c κs = search needs
-
-result-in-range-requires : tie.Need-result-in-range-requires Inv-loop μ-loop
-result-in-range-requires c κs = search needs
-
-put-requires : tie.Need-put-requires Inv-loop μ-loop
-put-requires c κs = search needs
-
-add-k-2 : tie.Need-add-k-2 Inv-loop μ-loop
-add-k-2 c = search needs
-
-loop-less : tie.Need-loop-less Inv-loop μ-loop
-loop-less c = search needs
 
 loop-again : tie.Need-loop-again Inv-loop μ-loop
 unfolding diagonal
@@ -72,13 +51,13 @@ upward-row-spec =
     (tie.spec
     Inv-loop
     μ-loop
-    add-k
+    (λ c. search needs)
     loop-holds
-    get-requires
-    get-requires-2
-    result-in-range-requires
-    put-requires
-    add-k-2
-    loop-less
+    (λ c κs. search needs)
+    (λ c κs. search needs)
+    (λ c κs. search needs)
+    (λ c κs. search needs)
+    (λ c. search needs)
+    (λ c. search needs)
     loop-again
     returns)

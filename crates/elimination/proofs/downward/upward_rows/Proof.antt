@@ -21,9 +21,6 @@ Inv-loop r t₀ p ok₀ i₀ t ok i =
 abbrev μ-loop : tie.MeasureT-loop
 μ-loop r t₀ p ok₀ i₀ t ok i = r - i
 
-pivots-requires : tie.Need-pivots-requires Inv-loop μ-loop
-pivots-requires c κs = search needs
-
 loop-holds : tie.Need-loop-holds Inv-loop μ-loop
 loop-holds c = (search needs, down-begins refl (c .before .before .before .pre .1), gathered-begins refl)
 
@@ -34,12 +31,6 @@ upward-row-requires c κs =
     let s = l .before .before .before .before in
     let h = l .loop .inv .1 in
     (omega arith, s .pre .0, p .long, h .holds .long, pivots-due (s .args .r) (table32 (l .loop .t)) (table32 (s .args .t .now)) _ p (down-due h))
-
-add-i : tie.Need-add-i Inv-loop μ-loop
-add-i c = search needs
-
-loop-less : tie.Need-loop-less Inv-loop μ-loop
-loop-less c = search needs
 
 loop-again : tie.Need-loop-again Inv-loop μ-loop
 unfolding span
@@ -63,4 +54,4 @@ returns c =
 pub upward-rows-spec : {M : Type 1} → statement M
 upward-rows-spec =
     tie.close
-    (tie.spec Inv-loop μ-loop pivots-requires loop-holds upward-row-requires add-i loop-less loop-again returns)
+    (tie.spec Inv-loop μ-loop (λ c κs. search needs) loop-holds upward-row-requires (λ c. search needs) (λ c. search needs) loop-again returns)

@@ -13,18 +13,6 @@ Inv-loop r count t₀ ok₀ k₀ t ok k = (k ≤ count) × StagesTold r (table32
 abbrev μ-loop : tie.MeasureT-loop
 μ-loop r count t₀ ok₀ k₀ t ok k = count - k
 
-loop-holds : tie.Need-loop-holds Inv-loop μ-loop
-loop-holds c = (search needs, stages-begin (c .args .r) (c .pre .2))
-
-eliminate-requires : tie.Need-eliminate-requires Inv-loop μ-loop
-eliminate-requires c κs = search needs
-
-add-k : tie.Need-add-k Inv-loop μ-loop
-add-k c = search needs
-
-loop-less : tie.Need-loop-less Inv-loop μ-loop
-loop-less c = search needs
-
 loop-again : tie.Need-loop-again Inv-loop μ-loop
 loop-again c = (omega arith, stages-turn (c .before .before .before .loop .inv .1) (c .eliminate .ensures))
 
@@ -34,4 +22,4 @@ returns c = stages-found (c .before .loop .inv .1) (omega arith) (omega arith)
 pub wide-stages-spec : {M : Type 1} → statement M
 wide-stages-spec =
     tie.close
-    (tie.spec Inv-loop μ-loop loop-holds eliminate-requires add-k loop-less loop-again returns)
+    (tie.spec Inv-loop μ-loop (λ c. (search needs, stages-begin (c .args .r) (c .pre .2))) (λ c κs. search needs) (λ c. search needs) (λ c. search needs) loop-again returns)

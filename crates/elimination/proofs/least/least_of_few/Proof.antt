@@ -14,21 +14,6 @@ Inv-loop lo k from to a least₀ j₀ least j = (j ≤ to) × Least lo (table32 
 abbrev μ-loop : tie.MeasureT-loop
 μ-loop lo k from to a least₀ j₀ least j = to - j
 
-loop-holds : tie.Need-loop-holds Inv-loop μ-loop
-loop-holds c = (search needs, least-begins (c .pre .4))
-
-get-requires : tie.Need-get-requires Inv-loop μ-loop
-get-requires c κs = search needs
-
-lower-requires : tie.Need-lower-requires Inv-loop μ-loop
-lower-requires c κs = c .before .before .loop .inv .1 .covering .bound
-
-add-j : tie.Need-add-j Inv-loop μ-loop
-add-j c = search needs
-
-loop-less : tie.Need-loop-less Inv-loop μ-loop
-loop-less c = search needs
-
 loop-again : tie.Need-loop-again Inv-loop μ-loop
 loop-again c = (omega arith, least-turns (c .before .before .before .loop .inv .1) (c .before .get .ensures) (c .lower .ensures))
 
@@ -37,4 +22,4 @@ returns c = least-ends (c .before .loop .inv .1) (omega arith) (omega arith)
 
 pub least-of-few-spec : {M : Type 1} → statement M
 least-of-few-spec =
-    tie.close (tie.spec Inv-loop μ-loop loop-holds get-requires lower-requires add-j loop-less loop-again returns)
+    tie.close (tie.spec Inv-loop μ-loop (λ c. (search needs, least-begins (c .pre .4))) (λ c κs. search needs) (λ c κs. c .before .before .loop .inv .1 .covering .bound) (λ c. search needs) (λ c. search needs) loop-again returns)

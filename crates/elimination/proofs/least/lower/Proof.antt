@@ -4,15 +4,6 @@ use Rattle.elimination.proofs.Bounds.{lowered-is}
 use Rattle.elimination.proofs.least.lower.Statement.{statement}
 use Rattle.elimination.proofs.least.lower.Tie as tie
 
-floor-requires : tie.Need-floor-requires
-floor-requires c κs = search needs
-
-larger-requires : tie.Need-larger-requires
-larger-requires c κs = search needs
-
-smaller-requires : tie.Need-smaller-requires
-smaller-requires c κs = search needs
-
 returns : tie.Need-returns
 returns c =
     let l = c .before in
@@ -20,4 +11,4 @@ returns c =
     lowered-is (s .args .x) (rw (s .good .1 .0 .1) tt) (s .pre) (l .before .floor .ensures) (l .larger .ensures) (c .smaller .ensures)
 
 pub lower-spec : {M : Type 1} → statement M
-lower-spec = tie.close (tie.spec floor-requires larger-requires smaller-requires returns)
+lower-spec = tie.close (tie.spec (λ c κs. search needs) (λ c κs. search needs) (λ c κs. search needs) returns)

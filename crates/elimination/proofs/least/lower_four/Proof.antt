@@ -3,39 +3,6 @@ use borrow.Author.Needs.{needs}
 use Rattle.elimination.proofs.least.lower_four.Statement.{statement}
 use Rattle.elimination.proofs.least.lower_four.Tie as tie
 
-get-requires : tie.Need-get-requires
-get-requires c κs = search needs
-
-lower-requires : tie.Need-lower-requires
-lower-requires c κs = search needs
-
-add-get : tie.Need-add-get
-add-get c = search needs
-
-get-requires-2 : tie.Need-get-requires-2
-get-requires-2 c κs = search needs
-
-lower-requires-2 : tie.Need-lower-requires-2
-lower-requires-2 c κs = search needs
-
-add-get-2 : tie.Need-add-get-2
-add-get-2 c = search needs
-
-get-requires-3 : tie.Need-get-requires-3
-get-requires-3 c κs = search needs
-
-lower-requires-3 : tie.Need-lower-requires-3
-lower-requires-3 c κs = search needs
-
-add-get-3 : tie.Need-add-get-3
-add-get-3 c = search needs
-
-get-requires-4 : tie.Need-get-requires-4
-get-requires-4 c κs = search needs
-
-lower-requires-4 : tie.Need-lower-requires-4
-lower-requires-4 c κs = search needs
-
 returns : tie.Need-returns
 returns c =
     let third = c .before .before in
@@ -52,15 +19,15 @@ pub lower-four-spec : {M : Type 1} → statement M
 lower-four-spec =
     tie.close
     (tie.spec
-    get-requires
-    lower-requires
-    add-get
-    get-requires-2
-    lower-requires-2
-    add-get-2
-    get-requires-3
-    lower-requires-3
-    add-get-3
-    get-requires-4
-    lower-requires-4
+    (λ c κs. search needs)
+    (λ c κs. search needs)
+    (λ c. search needs)
+    (λ c κs. search needs)
+    (λ c κs. search needs)
+    (λ c. search needs)
+    (λ c κs. search needs)
+    (λ c κs. search needs)
+    (λ c. search needs)
+    (λ c κs. search needs)
+    (λ c κs. search needs)
     returns)

@@ -16,24 +16,6 @@ Inv-loop r i t b ok₀ k₀ ok k = (k ≤ r) × Gathered (productsAt r (table32 
 abbrev μ-loop : tie.MeasureT-loop
 μ-loop r i t b ok₀ k₀ ok k = r - k
 
-add-k : tie.Need-add-k Inv-loop μ-loop
-add-k c = search needs
-
-loop-holds : tie.Need-loop-holds Inv-loop μ-loop
-loop-holds c = (search needs, gathered-begins (add-one (c .args .i)))
-
-get-requires : tie.Need-get-requires Inv-loop μ-loop
-get-requires c κs = search needs
-
-products-in-range-requires : tie.Need-products-in-range-requires Inv-loop μ-loop
-products-in-range-requires c κs = search needs
-
-add-k-2 : tie.Need-add-k-2 Inv-loop μ-loop
-add-k-2 c = search needs
-
-loop-less : tie.Need-loop-less Inv-loop μ-loop
-loop-less c = search needs
-
 loop-again : tie.Need-loop-again Inv-loop μ-loop
 loop-again c =
     let m = c .before in
@@ -50,11 +32,11 @@ climb-products-spec =
     (tie.spec
     Inv-loop
     μ-loop
-    add-k
-    loop-holds
-    get-requires
-    products-in-range-requires
-    add-k-2
-    loop-less
+    (λ c. search needs)
+    (λ c. (search needs, gathered-begins (add-one (c .args .i))))
+    (λ c κs. search needs)
+    (λ c κs. search needs)
+    (λ c. search needs)
+    (λ c. search needs)
     loop-again
     returns)

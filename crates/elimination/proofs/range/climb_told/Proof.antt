@@ -6,19 +6,10 @@ use Rattle.elimination.proofs.UpwardLaws.{climb-by-products, climb-by-b
 use Rattle.elimination.proofs.range.climb_told.Statement.{statement}
 use Rattle.elimination.proofs.range.climb_told.Tie as tie
 
-add-row-quick : tie.Need-add-row-quick
-add-row-quick c = search needs
-
-row-quick-requires : tie.Need-row-quick-requires
-row-quick-requires c κs = search needs
-
 returns : tie.Need-returns
 returns c =
     let s = c .before .before in
     climb-by-bound (s .args .r) (table32 (s .args .t .now)) (table32 (s .args .b .now)) (s .args .i) (rw (add-one (s .args .i)) at (c .before .row-quick .ensures)) (c .if1 .taken) (s .pre .4)
-
-climb-products-requires : tie.Need-climb-products-requires
-climb-products-requires c κs = search needs
 
 returns-2 : tie.Need-returns-2
 returns-2 c =
@@ -27,4 +18,4 @@ returns-2 c =
 
 pub climb-told-spec : {M : Type 1} → statement M
 climb-told-spec =
-    tie.close (tie.spec add-row-quick row-quick-requires returns climb-products-requires returns-2)
+    tie.close (tie.spec (λ c. search needs) (λ c κs. search needs) returns (λ c κs. search needs) returns-2)

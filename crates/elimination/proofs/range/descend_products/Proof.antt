@@ -17,24 +17,6 @@ Inv-loop i t b ok₀ k₀ ok k = (k ≤ i) × Gathered (λ a. productsAt (suc a)
 abbrev μ-loop : tie.MeasureT-loop
 μ-loop i t b ok₀ k₀ ok k = i - k
 
-loop-holds : tie.Need-loop-holds Inv-loop μ-loop
-loop-holds c = (search needs, gathered-begins refl)
-
-get-requires : tie.Need-get-requires Inv-loop μ-loop
-get-requires c κs = search needs
-
-add-products-in-range : tie.Need-add-products-in-range Inv-loop μ-loop
-add-products-in-range c = search needs
-
-products-in-range-requires : tie.Need-products-in-range-requires Inv-loop μ-loop
-products-in-range-requires c κs = search needs
-
-add-k : tie.Need-add-k Inv-loop μ-loop
-add-k c = search needs
-
-loop-less : tie.Need-loop-less Inv-loop μ-loop
-loop-less c = search needs
-
 loop-again : tie.Need-loop-again Inv-loop μ-loop
 loop-again c =
     let m = c .before in
@@ -52,11 +34,11 @@ descend-products-spec =
     (tie.spec
     Inv-loop
     μ-loop
-    loop-holds
-    get-requires
-    add-products-in-range
-    products-in-range-requires
-    add-k
-    loop-less
+    (λ c. (search needs, gathered-begins refl))
+    (λ c κs. search needs)
+    (λ c. search needs)
+    (λ c κs. search needs)
+    (λ c. search needs)
+    (λ c. search needs)
     loop-again
     returns)

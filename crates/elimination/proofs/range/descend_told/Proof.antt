@@ -5,16 +5,10 @@ use Rattle.elimination.proofs.DescentLaws.{descend-by-products, descend
 use Rattle.elimination.proofs.range.descend_told.Statement.{statement}
 use Rattle.elimination.proofs.range.descend_told.Tie as tie
 
-row-quick-requires : tie.Need-row-quick-requires
-row-quick-requires c κs = search needs
-
 returns : tie.Need-returns
 returns c =
     let s = c .before .before in
     descend-by-bound (table32 (s .args .t .now)) (table32 (s .args .b .now)) (s .args .i) (c .before .row-quick .ensures) (c .if1 .taken) (s .pre .3)
-
-descend-products-requires : tie.Need-descend-products-requires
-descend-products-requires c κs = search needs
 
 returns-2 : tie.Need-returns-2
 returns-2 c =
@@ -23,4 +17,4 @@ returns-2 c =
 
 pub descend-told-spec : {M : Type 1} → statement M
 descend-told-spec =
-    tie.close (tie.spec row-quick-requires returns descend-products-requires returns-2)
+    tie.close (tie.spec (λ c κs. search needs) returns (λ c κs. search needs) returns-2)

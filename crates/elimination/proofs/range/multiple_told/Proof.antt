@@ -6,16 +6,10 @@ use Rattle.elimination.proofs.Multiples.{by-products, by-bound}
 use Rattle.elimination.proofs.range.multiple_told.Statement.{statement}
 use Rattle.elimination.proofs.range.multiple_told.Tie as tie
 
-quick-requires : tie.Need-quick-requires
-quick-requires c κs = search needs
-
 returns : tie.Need-returns
 returns c =
     let s = c .before .before in
     λ own. by-bound (s .args .m) own (table32 (s .args .b .now) (s .args .k)) (s .args .c) (c .before .quick .ensures) (c .if1 .taken) (s .pre .3)
-
-products-in-range-requires : tie.Need-products-in-range-requires
-products-in-range-requires c κs = search needs
 
 returns-2 : tie.Need-returns-2
 returns-2 c =
@@ -24,4 +18,4 @@ returns-2 c =
 
 pub multiple-told-spec : {M : Type 1} → statement M
 multiple-told-spec =
-    tie.close (tie.spec quick-requires returns products-in-range-requires returns-2)
+    tie.close (tie.spec (λ c κs. search needs) returns (λ c κs. search needs) returns-2)

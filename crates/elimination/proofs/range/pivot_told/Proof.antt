@@ -4,14 +4,8 @@ use borrow.Author.Tests.{le-leb, lt-leb}
 use Rattle.elimination.proofs.range.pivot_told.Statement.{statement}
 use Rattle.elimination.proofs.range.pivot_told.Tie as tie
 
-returns : tie.Need-returns
-returns c = rw (le-leb (c .before .args .r) 1 (c .if1 .taken))
-
-is-finite-requires : tie.Need-is-finite-requires
-is-finite-requires c κs = search needs
-
 returns-2 : tie.Need-returns-2
 returns-2 c = rw (lt-leb (c .before .before .args .r) 1 (c .before .if1 .left)) (c .is-finite .ensures)
 
 pub pivot-told-spec : {M : Type 1} → statement M
-pivot-told-spec = tie.close (tie.spec returns is-finite-requires returns-2)
+pivot-told-spec = tie.close (tie.spec (λ c. rw (le-leb (c .before .args .r) 1 (c .if1 .taken))) (λ c κs. search needs) returns-2)

@@ -16,21 +16,6 @@ Inv-loop k m lo hi a ok₀ j₀ ok j = (j ≤ hi) × Gathered (timesInRange m (t
 abbrev μ-loop : tie.MeasureT-loop
 μ-loop k m lo hi a ok₀ j₀ ok j = hi - j
 
-loop-holds : tie.Need-loop-holds Inv-loop μ-loop
-loop-holds c = (search needs, gathered-begins refl)
-
-get-requires : tie.Need-get-requires Inv-loop μ-loop
-get-requires c κs = search needs
-
-mul-in-range-requires : tie.Need-mul-in-range-requires Inv-loop μ-loop
-mul-in-range-requires c κs = search needs
-
-add-j : tie.Need-add-j Inv-loop μ-loop
-add-j c = search needs
-
-loop-less : tie.Need-loop-less Inv-loop μ-loop
-loop-less c = search needs
-
 loop-again : tie.Need-loop-again Inv-loop μ-loop
 loop-again c =
     let l = c .before .before .before in
@@ -46,10 +31,10 @@ products-in-range-spec =
     (tie.spec
     Inv-loop
     μ-loop
-    loop-holds
-    get-requires
-    mul-in-range-requires
-    add-j
-    loop-less
+    (λ c. (search needs, gathered-begins refl))
+    (λ c κs. search needs)
+    (λ c κs. search needs)
+    (λ c. search needs)
+    (λ c. search needs)
     loop-again
     returns)

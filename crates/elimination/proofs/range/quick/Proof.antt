@@ -6,13 +6,10 @@ use Rattle.rounding.proofs.Steps.{is-zero-is}
 use Rattle.elimination.proofs.range.quick.Statement.{statement}
 use Rattle.elimination.proofs.range.quick.Tie as tie
 
-above-requires : tie.Need-above-requires
-above-requires c κs = search needs
-
 returns : tie.Need-returns
 returns c =
     let s = c .before in
     record { is = ap₂ (λ a b. a || b) (is-zero-is (s .args .m)) (c .above .ensures); held = rw (s .good .0 .1) tt }
 
 pub quick-spec : {M : Type 1} → statement M
-quick-spec = tie.close (tie.spec above-requires returns)
+quick-spec = tie.close (tie.spec (λ c κs. search needs) returns)

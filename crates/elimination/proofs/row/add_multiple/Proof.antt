@@ -16,24 +16,6 @@ Inv-loop i k m lo hi a₀ j₀ a j = (j ≤ hi) × Along i lo (plusMultiple m (t
 abbrev μ-loop : tie.MeasureT-loop
 μ-loop i k m lo hi a₀ j₀ a j = hi - j
 
-loop-holds : tie.Need-loop-holds Inv-loop μ-loop
-loop-holds c = (search needs, along-begins refl (c .pre .5))
-
-get-requires : tie.Need-get-requires Inv-loop μ-loop
-get-requires c κs = search needs
-
-get-requires-2 : tie.Need-get-requires-2 Inv-loop μ-loop
-get-requires-2 c κs = search needs
-
-put-requires : tie.Need-put-requires Inv-loop μ-loop
-put-requires c κs = search needs
-
-add-j : tie.Need-add-j Inv-loop μ-loop
-add-j c = search needs
-
-loop-less : tie.Need-loop-less Inv-loop μ-loop
-loop-less c = search needs
-
 loop-again : tie.Need-loop-again Inv-loop μ-loop
 loop-again c =
     let l = c .before .before .before .before .before .before .before in
@@ -51,11 +33,11 @@ add-multiple-spec =
     (tie.spec
     Inv-loop
     μ-loop
-    loop-holds
-    get-requires
-    get-requires-2
-    put-requires
-    add-j
-    loop-less
+    (λ c. (search needs, along-begins refl (c .pre .5)))
+    (λ c κs. search needs)
+    (λ c κs. search needs)
+    (λ c κs. search needs)
+    (λ c. search needs)
+    (λ c. search needs)
     loop-again
     returns)

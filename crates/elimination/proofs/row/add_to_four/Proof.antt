@@ -19,62 +19,8 @@ Inv-loop i k hi y a₀ m0 m1 m2 m3 j₀ a j = (suc k ≤ j) × (j ≤ hi) × Hol
 abbrev μ-loop : tie.MeasureT-loop
 μ-loop i k hi y a₀ m0 m1 m2 m3 j₀ a j = hi - j
 
-get-requires : tie.Need-get-requires Inv-loop μ-loop
-get-requires c κs = search needs
-
-add-get : tie.Need-add-get Inv-loop μ-loop
-add-get c = search needs
-
-get-requires-2 : tie.Need-get-requires-2 Inv-loop μ-loop
-get-requires-2 c κs = search needs
-
-add-get-2 : tie.Need-add-get-2 Inv-loop μ-loop
-add-get-2 c = search needs
-
-get-requires-3 : tie.Need-get-requires-3 Inv-loop μ-loop
-get-requires-3 c κs = search needs
-
-add-get-3 : tie.Need-add-get-3 Inv-loop μ-loop
-add-get-3 c = search needs
-
-get-requires-4 : tie.Need-get-requires-4 Inv-loop μ-loop
-get-requires-4 c κs = search needs
-
-add-j : tie.Need-add-j Inv-loop μ-loop
-add-j c = search needs
-
 loop-holds : tie.Need-loop-holds Inv-loop μ-loop
 loop-holds c = let s = c .before .before .before .before .before .before .before .before in (omega arith, search needs, columns-begin (s .args .k) (s .args .i) (s .args .i + 4) (add-one (s .args .k)) (s .pre .3))
-
-get-requires-5 : tie.Need-get-requires-5 Inv-loop μ-loop
-get-requires-5 c κs = search needs
-
-add-product-requires : tie.Need-add-product-requires Inv-loop μ-loop
-add-product-requires c κs = search needs
-
-add-add-product : tie.Need-add-add-product Inv-loop μ-loop
-add-add-product c = search needs
-
-add-product-requires-2 : tie.Need-add-product-requires-2 Inv-loop μ-loop
-add-product-requires-2 c κs = search needs
-
-add-add-product-2 : tie.Need-add-add-product-2 Inv-loop μ-loop
-add-add-product-2 c = search needs
-
-add-product-requires-3 : tie.Need-add-product-requires-3 Inv-loop μ-loop
-add-product-requires-3 c κs = search needs
-
-add-add-product-3 : tie.Need-add-add-product-3 Inv-loop μ-loop
-add-add-product-3 c = search needs
-
-add-product-requires-4 : tie.Need-add-product-requires-4 Inv-loop μ-loop
-add-product-requires-4 c κs = search needs
-
-add-j-2 : tie.Need-add-j-2 Inv-loop μ-loop
-add-j-2 c = search needs
-
-loop-less : tie.Need-loop-less Inv-loop μ-loop
-loop-less c = search needs
 
 loop-again : tie.Need-loop-again Inv-loop μ-loop
 loop-again c =
@@ -116,24 +62,24 @@ add-to-four-spec =
     (tie.spec
     Inv-loop
     μ-loop
-    get-requires
-    add-get
-    get-requires-2
-    add-get-2
-    get-requires-3
-    add-get-3
-    get-requires-4
-    add-j
+    (λ c κs. search needs)
+    (λ c. search needs)
+    (λ c κs. search needs)
+    (λ c. search needs)
+    (λ c κs. search needs)
+    (λ c. search needs)
+    (λ c κs. search needs)
+    (λ c. search needs)
     loop-holds
-    get-requires-5
-    add-product-requires
-    add-add-product
-    add-product-requires-2
-    add-add-product-2
-    add-product-requires-3
-    add-add-product-3
-    add-product-requires-4
-    add-j-2
-    loop-less
+    (λ c κs. search needs)
+    (λ c κs. search needs)
+    (λ c. search needs)
+    (λ c κs. search needs)
+    (λ c. search needs)
+    (λ c κs. search needs)
+    (λ c. search needs)
+    (λ c κs. search needs)
+    (λ c. search needs)
+    (λ c. search needs)
     loop-again
     returns)

@@ -20,26 +20,8 @@ Inv-loop i k hi y a₀ m j₀ a j = (j ≤ hi) × Along i (suc k) (plusMultiple 
 abbrev μ-loop : tie.MeasureT-loop
 μ-loop i k hi y a₀ m j₀ a j = hi - j
 
-get-requires : tie.Need-get-requires Inv-loop μ-loop
-get-requires c κs = search needs
-
-add-j : tie.Need-add-j Inv-loop μ-loop
-add-j c = search needs
-
 loop-holds : tie.Need-loop-holds Inv-loop μ-loop
 loop-holds c = (search needs, along-begins (add-one (c .before .before .args .k)) (c .before .before .pre .3))
-
-get-requires-2 : tie.Need-get-requires-2 Inv-loop μ-loop
-get-requires-2 c κs = search needs
-
-add-product-requires : tie.Need-add-product-requires Inv-loop μ-loop
-add-product-requires c κs = search needs
-
-add-j-2 : tie.Need-add-j-2 Inv-loop μ-loop
-add-j-2 c = search needs
-
-loop-less : tie.Need-loop-less Inv-loop μ-loop
-loop-less c = search needs
 
 loop-again : tie.Need-loop-again Inv-loop μ-loop
 unfolding plusMultiple
@@ -59,12 +41,12 @@ add-to-one-spec =
     (tie.spec
     Inv-loop
     μ-loop
-    get-requires
-    add-j
+    (λ c κs. search needs)
+    (λ c. search needs)
     loop-holds
-    get-requires-2
-    add-product-requires
-    add-j-2
-    loop-less
+    (λ c κs. search needs)
+    (λ c κs. search needs)
+    (λ c. search needs)
+    (λ c. search needs)
     loop-again
     returns)

@@ -16,18 +16,6 @@ Inv-loop i r a₀ j₀ a j = (j ≤ r) × Along i 0 (λ _. 0·0) (table32 a₀) 
 abbrev μ-loop : tie.MeasureT-loop
 μ-loop i r a₀ j₀ a j = r - j
 
-loop-holds : tie.Need-loop-holds Inv-loop μ-loop
-loop-holds c = (search needs, along-begins refl (c .pre .2))
-
-put-requires : tie.Need-put-requires Inv-loop μ-loop
-put-requires c κs = search needs
-
-add-j : tie.Need-add-j Inv-loop μ-loop
-add-j c = search needs
-
-loop-less : tie.Need-loop-less Inv-loop μ-loop
-loop-less c = search needs
-
 loop-again : tie.Need-loop-again Inv-loop μ-loop
 unfolding ofBits
 loop-again c = (omega arith, along-turns (c .before .before .before .loop .inv .1) (c .put .ensures) refl)
@@ -37,4 +25,4 @@ returns c = along-ends (c .before .loop .inv .1) (omega arith) (omega arith)
 
 pub clear-spec : {M : Type 1} → statement M
 clear-spec =
-    tie.close (tie.spec Inv-loop μ-loop loop-holds put-requires add-j loop-less loop-again returns)
+    tie.close (tie.spec Inv-loop μ-loop (λ c. (search needs, along-begins refl (c .pre .2))) (λ c κs. search needs) (λ c. search needs) (λ c. search needs) loop-again returns)

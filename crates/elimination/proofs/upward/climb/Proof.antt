@@ -6,15 +6,6 @@ use Rattle.elimination.proofs.UpwardLaws.{climb-joins}
 use Rattle.elimination.proofs.upward.climb.Statement.{statement}
 use Rattle.elimination.proofs.upward.climb.Tie as tie
 
-climb-eights-requires : tie.Need-climb-eights-requires
-climb-eights-requires c κs = search needs
-
-climb-fours-requires : tie.Need-climb-fours-requires
-climb-fours-requires c κs = search needs
-
-climb-ones-requires : tie.Need-climb-ones-requires
-climb-ones-requires c κs = search needs
-
 returns : tie.Need-returns
 returns c =
     let fours = c .before .before in
@@ -27,4 +18,4 @@ returns c =
 
 pub climb-spec : {M : Type 1} → statement M
 climb-spec =
-    tie.close (tie.spec climb-eights-requires climb-fours-requires climb-ones-requires returns)
+    tie.close (tie.spec (λ c κs. search needs) (λ c κs. search needs) (λ c κs. search needs) returns)

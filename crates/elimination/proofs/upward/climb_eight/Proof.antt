@@ -26,57 +26,6 @@ Inv-loop r i j t b a0₀ a1₀ a2₀ a3₀ a4₀ a5₀ a6₀ a7₀ q₀ q-end a0
 abbrev μ-loop : tie.MeasureT-loop
 μ-loop r i j t b a0₀ a1₀ a2₀ a3₀ a4₀ a5₀ a6₀ a7₀ q₀ q-end a0 a1 a2 a3 a4 a5 a6 a7 q = q-end - q
 
-get-requires : tie.Need-get-requires Inv-loop μ-loop
-get-requires c κs = search needs
-
-add-get : tie.Need-add-get Inv-loop μ-loop
-add-get c = search needs
-
-get-requires-2 : tie.Need-get-requires-2 Inv-loop μ-loop
-get-requires-2 c κs = search needs
-
-add-get-2 : tie.Need-add-get-2 Inv-loop μ-loop
-add-get-2 c = search needs
-
-get-requires-3 : tie.Need-get-requires-3 Inv-loop μ-loop
-get-requires-3 c κs = search needs
-
-add-get-3 : tie.Need-add-get-3 Inv-loop μ-loop
-add-get-3 c = search needs
-
-get-requires-4 : tie.Need-get-requires-4 Inv-loop μ-loop
-get-requires-4 c κs = search needs
-
-add-get-4 : tie.Need-add-get-4 Inv-loop μ-loop
-add-get-4 c = search needs
-
-get-requires-5 : tie.Need-get-requires-5 Inv-loop μ-loop
-get-requires-5 c κs = search needs
-
-add-get-5 : tie.Need-add-get-5 Inv-loop μ-loop
-add-get-5 c = search needs
-
-get-requires-6 : tie.Need-get-requires-6 Inv-loop μ-loop
-get-requires-6 c κs = search needs
-
-add-get-6 : tie.Need-add-get-6 Inv-loop μ-loop
-add-get-6 c = search needs
-
-get-requires-7 : tie.Need-get-requires-7 Inv-loop μ-loop
-get-requires-7 c κs = search needs
-
-add-get-7 : tie.Need-add-get-7 Inv-loop μ-loop
-add-get-7 c = search needs
-
-get-requires-8 : tie.Need-get-requires-8 Inv-loop μ-loop
-get-requires-8 c κs = search needs
-
-sub-q-end : tie.Need-sub-q-end Inv-loop μ-loop
-sub-q-end c = search needs
-
-sub-q-end-2 : tie.Need-sub-q-end-2 Inv-loop μ-loop
-sub-q-end-2 c = search needs
-
 loop-holds : tie.Need-loop-holds Inv-loop μ-loop
 loop-holds c =
     let a7 = c .before .before in
@@ -96,66 +45,6 @@ loop-holds c =
       staged-begins (a7 .get7 .ensures),
       staged-begins (c .get8 .ensures),
     )
-
-sub-k : tie.Need-sub-k Inv-loop μ-loop
-sub-k c = search needs
-
-sub-k-2 : tie.Need-sub-k-2 Inv-loop μ-loop
-sub-k-2 c = search needs
-
-get-requires-9 : tie.Need-get-requires-9 Inv-loop μ-loop
-get-requires-9 c κs = search needs
-
-get-requires-10 : tie.Need-get-requires-10 Inv-loop μ-loop
-get-requires-10 c κs = search needs
-
-add-get-8 : tie.Need-add-get-8 Inv-loop μ-loop
-add-get-8 c = search needs
-
-get-requires-11 : tie.Need-get-requires-11 Inv-loop μ-loop
-get-requires-11 c κs = search needs
-
-add-get-9 : tie.Need-add-get-9 Inv-loop μ-loop
-add-get-9 c = search needs
-
-get-requires-12 : tie.Need-get-requires-12 Inv-loop μ-loop
-get-requires-12 c κs = search needs
-
-add-get-10 : tie.Need-add-get-10 Inv-loop μ-loop
-add-get-10 c = search needs
-
-get-requires-13 : tie.Need-get-requires-13 Inv-loop μ-loop
-get-requires-13 c κs = search needs
-
-add-get-11 : tie.Need-add-get-11 Inv-loop μ-loop
-add-get-11 c = search needs
-
-get-requires-14 : tie.Need-get-requires-14 Inv-loop μ-loop
-get-requires-14 c κs = search needs
-
-add-get-12 : tie.Need-add-get-12 Inv-loop μ-loop
-add-get-12 c = search needs
-
-get-requires-15 : tie.Need-get-requires-15 Inv-loop μ-loop
-get-requires-15 c κs = search needs
-
-add-get-13 : tie.Need-add-get-13 Inv-loop μ-loop
-add-get-13 c = search needs
-
-get-requires-16 : tie.Need-get-requires-16 Inv-loop μ-loop
-get-requires-16 c κs = search needs
-
-add-get-14 : tie.Need-add-get-14 Inv-loop μ-loop
-add-get-14 c = search needs
-
-get-requires-17 : tie.Need-get-requires-17 Inv-loop μ-loop
-get-requires-17 c κs = search needs
-
-add-q : tie.Need-add-q Inv-loop μ-loop
-add-q c = search needs
-
-loop-less : tie.Need-loop-less Inv-loop μ-loop
-loop-less c = search needs
 
 loop-again : tie.Need-loop-again Inv-loop μ-loop
 loop-again c =
@@ -181,51 +70,6 @@ loop-again c =
       climb-turns r (v .7) m (a7 .get16 .ensures),
       climb-turns r (v .8) m (c .get17 .ensures),
     )
-
-put-requires : tie.Need-put-requires Inv-loop μ-loop
-put-requires c κs = search needs
-
-add-put : tie.Need-add-put Inv-loop μ-loop
-add-put c = search needs
-
-put-requires-2 : tie.Need-put-requires-2 Inv-loop μ-loop
-put-requires-2 c κs = search needs
-
-add-put-2 : tie.Need-add-put-2 Inv-loop μ-loop
-add-put-2 c = search needs
-
-put-requires-3 : tie.Need-put-requires-3 Inv-loop μ-loop
-put-requires-3 c κs = search needs
-
-add-put-3 : tie.Need-add-put-3 Inv-loop μ-loop
-add-put-3 c = search needs
-
-put-requires-4 : tie.Need-put-requires-4 Inv-loop μ-loop
-put-requires-4 c κs = search needs
-
-add-put-4 : tie.Need-add-put-4 Inv-loop μ-loop
-add-put-4 c = search needs
-
-put-requires-5 : tie.Need-put-requires-5 Inv-loop μ-loop
-put-requires-5 c κs = search needs
-
-add-put-5 : tie.Need-add-put-5 Inv-loop μ-loop
-add-put-5 c = search needs
-
-put-requires-6 : tie.Need-put-requires-6 Inv-loop μ-loop
-put-requires-6 c κs = search needs
-
-add-put-6 : tie.Need-add-put-6 Inv-loop μ-loop
-add-put-6 c = search needs
-
-put-requires-7 : tie.Need-put-requires-7 Inv-loop μ-loop
-put-requires-7 c κs = search needs
-
-add-put-7 : tie.Need-add-put-7 Inv-loop μ-loop
-add-put-7 c = search needs
-
-put-requires-8 : tie.Need-put-requires-8 Inv-loop μ-loop
-put-requires-8 c κs = search needs
 
 returns : tie.Need-returns Inv-loop μ-loop
 returns c =
@@ -266,58 +110,58 @@ climb-eight-spec =
     (tie.spec
     Inv-loop
     μ-loop
-    get-requires
-    add-get
-    get-requires-2
-    add-get-2
-    get-requires-3
-    add-get-3
-    get-requires-4
-    add-get-4
-    get-requires-5
-    add-get-5
-    get-requires-6
-    add-get-6
-    get-requires-7
-    add-get-7
-    get-requires-8
-    sub-q-end
-    sub-q-end-2
+    (λ c κs. search needs)
+    (λ c. search needs)
+    (λ c κs. search needs)
+    (λ c. search needs)
+    (λ c κs. search needs)
+    (λ c. search needs)
+    (λ c κs. search needs)
+    (λ c. search needs)
+    (λ c κs. search needs)
+    (λ c. search needs)
+    (λ c κs. search needs)
+    (λ c. search needs)
+    (λ c κs. search needs)
+    (λ c. search needs)
+    (λ c κs. search needs)
+    (λ c. search needs)
+    (λ c. search needs)
     loop-holds
-    sub-k
-    sub-k-2
-    get-requires-9
-    get-requires-10
-    add-get-8
-    get-requires-11
-    add-get-9
-    get-requires-12
-    add-get-10
-    get-requires-13
-    add-get-11
-    get-requires-14
-    add-get-12
-    get-requires-15
-    add-get-13
-    get-requires-16
-    add-get-14
-    get-requires-17
-    add-q
-    loop-less
+    (λ c. search needs)
+    (λ c. search needs)
+    (λ c κs. search needs)
+    (λ c κs. search needs)
+    (λ c. search needs)
+    (λ c κs. search needs)
+    (λ c. search needs)
+    (λ c κs. search needs)
+    (λ c. search needs)
+    (λ c κs. search needs)
+    (λ c. search needs)
+    (λ c κs. search needs)
+    (λ c. search needs)
+    (λ c κs. search needs)
+    (λ c. search needs)
+    (λ c κs. search needs)
+    (λ c. search needs)
+    (λ c κs. search needs)
+    (λ c. search needs)
+    (λ c. search needs)
     loop-again
-    put-requires
-    add-put
-    put-requires-2
-    add-put-2
-    put-requires-3
-    add-put-3
-    put-requires-4
-    add-put-4
-    put-requires-5
-    add-put-5
-    put-requires-6
-    add-put-6
-    put-requires-7
-    add-put-7
-    put-requires-8
+    (λ c κs. search needs)
+    (λ c. search needs)
+    (λ c κs. search needs)
+    (λ c. search needs)
+    (λ c κs. search needs)
+    (λ c. search needs)
+    (λ c κs. search needs)
+    (λ c. search needs)
+    (λ c κs. search needs)
+    (λ c. search needs)
+    (λ c κs. search needs)
+    (λ c. search needs)
+    (λ c κs. search needs)
+    (λ c. search needs)
+    (λ c κs. search needs)
     returns)

@@ -16,29 +16,11 @@ Inv-loop r i t b₀ j₀ b j = (j ≤ r) × Along i 0 (climbed r (table32 t) (ta
 abbrev μ-loop : tie.MeasureT-loop
 μ-loop r i t b₀ j₀ b j = r - j
 
-loop-holds : tie.Need-loop-holds Inv-loop μ-loop
-loop-holds c = (search needs, along-begins refl (c .pre .3))
-
-add-loop : tie.Need-add-loop Inv-loop μ-loop
-add-loop c = search needs
-
-climb-eight-requires : tie.Need-climb-eight-requires Inv-loop μ-loop
-climb-eight-requires c κs = search needs
-
-add-j : tie.Need-add-j Inv-loop μ-loop
-add-j c = search needs
-
-loop-less : tie.Need-loop-less Inv-loop μ-loop
-loop-less c = search needs
-
 loop-again : tie.Need-loop-again Inv-loop μ-loop
 loop-again c =
     let l = c .before .before .before in
     let s = l .before .args in
     (omega arith, climb-joins (s .r) (table32 (s .t .now)) (l .loop .inv .1) (c .climb-eight .ensures) (omega arith))
-
-returns : tie.Need-returns Inv-loop μ-loop
-returns c = (c .before .loop .inv .0, c .before .loop .inv .1 .holds)
 
 pub climb-eights-spec : {M : Type 1} → statement M
 climb-eights-spec =
@@ -46,10 +28,10 @@ climb-eights-spec =
     (tie.spec
     Inv-loop
     μ-loop
-    loop-holds
-    add-loop
-    climb-eight-requires
-    add-j
-    loop-less
+    (λ c. (search needs, along-begins refl (c .pre .3)))
+    (λ c. search needs)
+    (λ c κs. search needs)
+    (λ c. search needs)
+    (λ c. search needs)
     loop-again
-    returns)
+    (λ c. (c .before .loop .inv .0, c .before .loop .inv .1 .holds)))

@@ -21,33 +21,6 @@ Inv-loop r i j t b a0₀ a1₀ a2₀ a3₀ q₀ q-end a0 a1 a2 a3 q =
 abbrev μ-loop : tie.MeasureT-loop
 μ-loop r i j t b a0₀ a1₀ a2₀ a3₀ q₀ q-end a0 a1 a2 a3 q = q-end - q
 
-get-requires : tie.Need-get-requires Inv-loop μ-loop
-get-requires c κs = search needs
-
-add-get : tie.Need-add-get Inv-loop μ-loop
-add-get c = search needs
-
-get-requires-2 : tie.Need-get-requires-2 Inv-loop μ-loop
-get-requires-2 c κs = search needs
-
-add-get-2 : tie.Need-add-get-2 Inv-loop μ-loop
-add-get-2 c = search needs
-
-get-requires-3 : tie.Need-get-requires-3 Inv-loop μ-loop
-get-requires-3 c κs = search needs
-
-add-get-3 : tie.Need-add-get-3 Inv-loop μ-loop
-add-get-3 c = search needs
-
-get-requires-4 : tie.Need-get-requires-4 Inv-loop μ-loop
-get-requires-4 c κs = search needs
-
-sub-q-end : tie.Need-sub-q-end Inv-loop μ-loop
-sub-q-end c = search needs
-
-sub-q-end-2 : tie.Need-sub-q-end-2 Inv-loop μ-loop
-sub-q-end-2 c = search needs
-
 loop-holds : tie.Need-loop-holds Inv-loop μ-loop
 loop-holds c =
     let a3 = c .before .before in
@@ -59,42 +32,6 @@ loop-holds c =
       staged-begins (a3 .get3 .ensures),
       staged-begins (c .get4 .ensures),
     )
-
-sub-k : tie.Need-sub-k Inv-loop μ-loop
-sub-k c = search needs
-
-sub-k-2 : tie.Need-sub-k-2 Inv-loop μ-loop
-sub-k-2 c = search needs
-
-get-requires-5 : tie.Need-get-requires-5 Inv-loop μ-loop
-get-requires-5 c κs = search needs
-
-get-requires-6 : tie.Need-get-requires-6 Inv-loop μ-loop
-get-requires-6 c κs = search needs
-
-add-get-4 : tie.Need-add-get-4 Inv-loop μ-loop
-add-get-4 c = search needs
-
-get-requires-7 : tie.Need-get-requires-7 Inv-loop μ-loop
-get-requires-7 c κs = search needs
-
-add-get-5 : tie.Need-add-get-5 Inv-loop μ-loop
-add-get-5 c = search needs
-
-get-requires-8 : tie.Need-get-requires-8 Inv-loop μ-loop
-get-requires-8 c κs = search needs
-
-add-get-6 : tie.Need-add-get-6 Inv-loop μ-loop
-add-get-6 c = search needs
-
-get-requires-9 : tie.Need-get-requires-9 Inv-loop μ-loop
-get-requires-9 c κs = search needs
-
-add-q : tie.Need-add-q Inv-loop μ-loop
-add-q c = search needs
-
-loop-less : tie.Need-loop-less Inv-loop μ-loop
-loop-less c = search needs
 
 loop-again : tie.Need-loop-again Inv-loop μ-loop
 loop-again c =
@@ -112,27 +49,6 @@ loop-again c =
       climb-turns r (v .3) m (a3 .get8 .ensures),
       climb-turns r (v .4) m (c .get9 .ensures),
     )
-
-put-requires : tie.Need-put-requires Inv-loop μ-loop
-put-requires c κs = search needs
-
-add-put : tie.Need-add-put Inv-loop μ-loop
-add-put c = search needs
-
-put-requires-2 : tie.Need-put-requires-2 Inv-loop μ-loop
-put-requires-2 c κs = search needs
-
-add-put-2 : tie.Need-add-put-2 Inv-loop μ-loop
-add-put-2 c = search needs
-
-put-requires-3 : tie.Need-put-requires-3 Inv-loop μ-loop
-put-requires-3 c κs = search needs
-
-add-put-3 : tie.Need-add-put-3 Inv-loop μ-loop
-add-put-3 c = search needs
-
-put-requires-4 : tie.Need-put-requires-4 Inv-loop μ-loop
-put-requires-4 c κs = search needs
 
 returns : tie.Need-returns Inv-loop μ-loop
 returns c =
@@ -161,34 +77,34 @@ climb-four-spec =
     (tie.spec
     Inv-loop
     μ-loop
-    get-requires
-    add-get
-    get-requires-2
-    add-get-2
-    get-requires-3
-    add-get-3
-    get-requires-4
-    sub-q-end
-    sub-q-end-2
+    (λ c κs. search needs)
+    (λ c. search needs)
+    (λ c κs. search needs)
+    (λ c. search needs)
+    (λ c κs. search needs)
+    (λ c. search needs)
+    (λ c κs. search needs)
+    (λ c. search needs)
+    (λ c. search needs)
     loop-holds
-    sub-k
-    sub-k-2
-    get-requires-5
-    get-requires-6
-    add-get-4
-    get-requires-7
-    add-get-5
-    get-requires-8
-    add-get-6
-    get-requires-9
-    add-q
-    loop-less
+    (λ c. search needs)
+    (λ c. search needs)
+    (λ c κs. search needs)
+    (λ c κs. search needs)
+    (λ c. search needs)
+    (λ c κs. search needs)
+    (λ c. search needs)
+    (λ c κs. search needs)
+    (λ c. search needs)
+    (λ c κs. search needs)
+    (λ c. search needs)
+    (λ c. search needs)
     loop-again
-    put-requires
-    add-put
-    put-requires-2
-    add-put-2
-    put-requires-3
-    add-put-3
-    put-requires-4
+    (λ c κs. search needs)
+    (λ c. search needs)
+    (λ c κs. search needs)
+    (λ c. search needs)
+    (λ c κs. search needs)
+    (λ c. search needs)
+    (λ c κs. search needs)
     returns)

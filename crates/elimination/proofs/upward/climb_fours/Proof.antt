@@ -16,21 +16,6 @@ Inv-loop r i from t b₀ j₀ b j = (j ≤ r) × Along i from (climbed r (table3
 abbrev μ-loop : tie.MeasureT-loop
 μ-loop r i from t b₀ j₀ b j = r - j
 
-loop-holds : tie.Need-loop-holds Inv-loop μ-loop
-loop-holds c = (search needs, along-begins refl (c .pre .4))
-
-add-loop : tie.Need-add-loop Inv-loop μ-loop
-add-loop c = search needs
-
-climb-four-requires : tie.Need-climb-four-requires Inv-loop μ-loop
-climb-four-requires c κs = search needs
-
-add-j : tie.Need-add-j Inv-loop μ-loop
-add-j c = search needs
-
-loop-less : tie.Need-loop-less Inv-loop μ-loop
-loop-less c = search needs
-
 loop-again : tie.Need-loop-again Inv-loop μ-loop
 loop-again c =
     let l = c .before .before .before in
@@ -46,10 +31,10 @@ climb-fours-spec =
     (tie.spec
     Inv-loop
     μ-loop
-    loop-holds
-    add-loop
-    climb-four-requires
-    add-j
-    loop-less
+    (λ c. (search needs, along-begins refl (c .pre .4)))
+    (λ c. search needs)
+    (λ c κs. search needs)
+    (λ c. search needs)
+    (λ c. search needs)
     loop-again
     returns)

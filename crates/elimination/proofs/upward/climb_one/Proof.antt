@@ -16,43 +16,10 @@ Inv-loop r i j t b a0₀ q₀ q-end a0 q = (q ≤ r - suc i) × Climbs r (table3
 abbrev μ-loop : tie.MeasureT-loop
 μ-loop r i j t b a0₀ q₀ q-end a0 q = q-end - q
 
-get-requires : tie.Need-get-requires Inv-loop μ-loop
-get-requires c κs = search needs
-
-sub-q-end : tie.Need-sub-q-end Inv-loop μ-loop
-sub-q-end c = search needs
-
-sub-q-end-2 : tie.Need-sub-q-end-2 Inv-loop μ-loop
-sub-q-end-2 c = search needs
-
-loop-holds : tie.Need-loop-holds Inv-loop μ-loop
-loop-holds c = (search needs, staged-begins (c .get .ensures))
-
-sub-k : tie.Need-sub-k Inv-loop μ-loop
-sub-k c = search needs
-
-sub-k-2 : tie.Need-sub-k-2 Inv-loop μ-loop
-sub-k-2 c = search needs
-
-get-requires-2 : tie.Need-get-requires-2 Inv-loop μ-loop
-get-requires-2 c κs = search needs
-
-get-requires-3 : tie.Need-get-requires-3 Inv-loop μ-loop
-get-requires-3 c κs = search needs
-
-add-q : tie.Need-add-q Inv-loop μ-loop
-add-q c = search needs
-
-loop-less : tie.Need-loop-less Inv-loop μ-loop
-loop-less c = search needs
-
 loop-again : tie.Need-loop-again Inv-loop μ-loop
 loop-again c =
     let l = c .before .before .before .before in
     (omega arith, climb-turns (l .before .before .before .args .r) (l .loop .inv .1) (c .before .before .get2 .ensures) (c .get3 .ensures))
-
-put-requires : tie.Need-put-requires Inv-loop μ-loop
-put-requires c κs = search needs
 
 returns : tie.Need-returns Inv-loop μ-loop
 returns c =
@@ -66,16 +33,16 @@ climb-one-spec =
     (tie.spec
     Inv-loop
     μ-loop
-    get-requires
-    sub-q-end
-    sub-q-end-2
-    loop-holds
-    sub-k
-    sub-k-2
-    get-requires-2
-    get-requires-3
-    add-q
-    loop-less
+    (λ c κs. search needs)
+    (λ c. search needs)
+    (λ c. search needs)
+    (λ c. (search needs, staged-begins (c .get .ensures)))
+    (λ c. search needs)
+    (λ c. search needs)
+    (λ c κs. search needs)
+    (λ c κs. search needs)
+    (λ c. search needs)
+    (λ c. search needs)
     loop-again
-    put-requires
+    (λ c κs. search needs)
     returns)

@@ -16,18 +16,6 @@ Inv-loop r i from t b₀ j₀ b j = (j ≤ r) × Along i from (climbed r (table3
 abbrev μ-loop : tie.MeasureT-loop
 μ-loop r i from t b₀ j₀ b j = r - j
 
-loop-holds : tie.Need-loop-holds Inv-loop μ-loop
-loop-holds c = (search needs, along-begins refl (c .pre .4))
-
-climb-one-requires : tie.Need-climb-one-requires Inv-loop μ-loop
-climb-one-requires c κs = search needs
-
-add-j : tie.Need-add-j Inv-loop μ-loop
-add-j c = search needs
-
-loop-less : tie.Need-loop-less Inv-loop μ-loop
-loop-less c = search needs
-
 loop-again : tie.Need-loop-again Inv-loop μ-loop
 loop-again c =
     let l = c .before .before .before in
@@ -40,4 +28,4 @@ returns c = along-ends (c .before .loop .inv .1) (omega arith) (omega arith)
 pub climb-ones-spec : {M : Type 1} → statement M
 climb-ones-spec =
     tie.close
-    (tie.spec Inv-loop μ-loop loop-holds climb-one-requires add-j loop-less loop-again returns)
+    (tie.spec Inv-loop μ-loop (λ c. (search needs, along-begins refl (c .pre .4))) (λ c κs. search needs) (λ c. search needs) (λ c. search needs) loop-again returns)

@@ -29,12 +29,6 @@ loop-holds c =
     let s = c .args in
     (search needs, rw (sub-zero (s .r)) (upward-begins (s .r) (table32 (s .t .now)) (table32 (s .b .now)) refl (c .pre .2) bound-one), told-begins refl)
 
-sub-i : tie.Need-sub-i Inv-loop μ-loop
-sub-i c = search needs
-
-sub-i-2 : tie.Need-sub-i-2 Inv-loop μ-loop
-sub-i-2 c = search needs
-
 climb-told-requires : tie.Need-climb-told-requires Inv-loop μ-loop
 climb-told-requires c κs =
     let l = c .before .before in
@@ -42,20 +36,11 @@ climb-told-requires c κs =
     let h = l .loop .inv .1 in
     (search needs, p .0, p .1, h .holds .long, λ k low high. h .covers k (omega arith) high)
 
-climb-requires : tie.Need-climb-requires Inv-loop μ-loop
-climb-requires c κs = search needs
-
 least-requires : tie.Need-least-requires Inv-loop μ-loop
 least-requires c κs =
     let climbed = c .before in
     let l = climbed .before .before .before .before .before in
     (search needs, search needs, l .before .pre .0, climbed .climb .ensures .long, l .loop .inv .1 .bound)
-
-add-q : tie.Need-add-q Inv-loop μ-loop
-add-q c = search needs
-
-loop-less : tie.Need-loop-less Inv-loop μ-loop
-loop-less c = search needs
 
 loop-again : tie.Need-loop-again Inv-loop μ-loop
 loop-again c =
@@ -95,12 +80,12 @@ up-spec =
     Inv-loop
     μ-loop
     loop-holds
-    sub-i
-    sub-i-2
+    (λ c. search needs)
+    (λ c. search needs)
     climb-told-requires
-    climb-requires
+    (λ c κs. search needs)
     least-requires
-    add-q
-    loop-less
+    (λ c. search needs)
+    (λ c. search needs)
     loop-again
     returns)

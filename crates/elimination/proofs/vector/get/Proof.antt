@@ -5,14 +5,8 @@ use Rattle.elimination.proofs.Vectors.{read-vector}
 use Rattle.elimination.proofs.vector.get.Statement.{statement}
 use Rattle.elimination.proofs.vector.get.Tie as tie
 
-mul-result : tie.Need-mul-result
-mul-result c = search needs
-
-element-copy-out-result : tie.Need-element-copy-out-result
-element-copy-out-result c = search needs
-
 returns : tie.Need-returns
 returns c = read-vector (c .before .args .v .now) (c .before .pre .1) (c .before .pre .0) nan
 
 pub get-spec : {M : Type 1} → statement M
-get-spec = tie.close (tie.spec mul-result element-copy-out-result returns)
+get-spec = tie.close (tie.spec (λ c. search needs) (λ c. search needs) returns)

@@ -4,14 +4,8 @@ use Rattle.elimination.proofs.Vectors.{write-vector}
 use Rattle.elimination.proofs.vector.put.Statement.{statement}
 use Rattle.elimination.proofs.vector.put.Tie as tie
 
-mul-v : tie.Need-mul-v
-mul-v c = search needs
-
-element-write-v : tie.Need-element-write-v
-element-write-v c = search needs
-
 returns : tie.Need-returns
 returns c = write-vector (c .args .v .now) (c .pre .1) (c .pre .0) (c .args .x)
 
 pub put-spec : {M : Type 1} → statement M
-put-spec = tie.close (tie.spec mul-v element-write-v returns)
+put-spec = tie.close (tie.spec (λ c. search needs) (λ c. search needs) returns)

@@ -17,17 +17,8 @@ Inv-loop n r stages t a k s₀ p₀ s p = (p ≤ r) × Down 0 (λ o. packedRow n
 abbrev μ-loop : tie.MeasureT-loop
 μ-loop n r stages t a k s₀ p₀ s p = r - p
 
-loop-holds : tie.Need-loop-holds Inv-loop μ-loop
-loop-holds c = (search needs, down-begins refl (c .pre .5))
-
 pack-row-requires : tie.Need-pack-row-requires Inv-loop μ-loop
 pack-row-requires c κs = (c .before .before .before .pre .0, c .before .loop-test .taken, c .before .before .before .pre .1, c .before .before .before .pre .2, c .before .before .before .pre .3, c .before .before .before .pre .4, c .before .before .loop .inv .1 .holds .long)
-
-add-p : tie.Need-add-p Inv-loop μ-loop
-add-p c = search needs
-
-loop-less : tie.Need-loop-less Inv-loop μ-loop
-loop-less c = search needs
 
 loop-again : tie.Need-loop-again Inv-loop μ-loop
 loop-again c =
@@ -40,4 +31,4 @@ returns c = down-ends (c .before .loop .inv .1) (omega arith) (omega arith)
 pub pack-spec : {M : Type 1} → statement M
 pack-spec =
     tie.close
-    (tie.spec Inv-loop μ-loop loop-holds pack-row-requires add-p loop-less loop-again returns)
+    (tie.spec Inv-loop μ-loop (λ c. (search needs, down-begins refl (c .pre .5))) pack-row-requires (λ c. search needs) (λ c. search needs) loop-again returns)

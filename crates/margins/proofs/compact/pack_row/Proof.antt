@@ -7,9 +7,6 @@ use Rattle.margins.proofs.CompactLaws.{stage-below, stages-wider, row-p
 use Rattle.margins.proofs.compact.pack_row.Statement.{statement}
 use Rattle.margins.proofs.compact.pack_row.Tie as tie
 
-stage-requires : tie.Need-stage-requires
-stage-requires c κs = (omega (arith, c .pre .2 .room), c .pre .2 .long)
-
 leaving-rate-requires : tie.Need-leaving-rate-requires
 leaving-rate-requires c κs = (stage-below (c .before .pre .2) (c .before .pre .1) (c .stage .ensures), c .before .pre .0, c .before .pre .3, c .before .pre .4)
 
@@ -27,4 +24,4 @@ returns c =
 pub pack-row-spec : {M : Type 1} → statement M
 pack-row-spec =
     tie.close
-    (tie.spec stage-requires leaving-rate-requires pack-sizes-requires put-requires returns)
+    (tie.spec (λ c κs. (omega (arith, c .pre .2 .room), c .pre .2 .long)) leaving-rate-requires pack-sizes-requires put-requires returns)

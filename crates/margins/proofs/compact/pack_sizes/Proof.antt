@@ -18,15 +18,6 @@ Inv-loop r p stages t k s₀ i q₀ s q = (q ≤ r) × Along p 0 (λ o. table32 
 abbrev μ-loop : tie.MeasureT-loop
 μ-loop r p stages t k s₀ i q₀ s q = r - q
 
-stage-requires : tie.Need-stage-requires Inv-loop μ-loop
-stage-requires c κs = search needs
-
-loop-holds : tie.Need-loop-holds Inv-loop μ-loop
-loop-holds c = (search needs, along-begins refl (c .before .pre .4))
-
-stage-requires-2 : tie.Need-stage-requires-2 Inv-loop μ-loop
-stage-requires-2 c κs = search needs
-
 get-requires : tie.Need-get-requires Inv-loop μ-loop
 get-requires c κs = (stage-below (c .before .before .before .before .pre .1) (c .before .before .before .before .pre .0) (c .before .before .before .stage .ensures), stage-below (c .before .before .before .before .pre .1) (c .before .loop-test .taken) (c .stage2 .ensures), c .before .before .before .before .pre .2)
 
@@ -35,12 +26,6 @@ get-requires-2 c κs = (stage-below (c .before .before .before .before .before .
 
 put-requires : tie.Need-put-requires Inv-loop μ-loop
 put-requires c κs = (omega (arith, c .before .before .before .before .before .before .before .pre .1 .room), omega (arith, c .before .before .before .before .before .before .before .pre .1 .room), c .before .before .before .before .before .loop .inv .1 .holds .long)
-
-add-q : tie.Need-add-q Inv-loop μ-loop
-add-q c = search needs
-
-loop-less : tie.Need-loop-less Inv-loop μ-loop
-loop-less c = search needs
 
 loop-again : tie.Need-loop-again Inv-loop μ-loop
 loop-again c = (omega arith, along-turns (c .before .before .before .before .before .before .loop .inv .1) (c .put .ensures) (cc))
@@ -54,13 +39,13 @@ pack-sizes-spec =
     (tie.spec
     Inv-loop
     μ-loop
-    stage-requires
-    loop-holds
-    stage-requires-2
+    (λ c κs. search needs)
+    (λ c. (search needs, along-begins refl (c .before .pre .4)))
+    (λ c κs. search needs)
     get-requires
     get-requires-2
     put-requires
-    add-q
-    loop-less
+    (λ c. search needs)
+    (λ c. search needs)
     loop-again
     returns)

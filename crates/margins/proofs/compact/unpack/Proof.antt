@@ -15,17 +15,8 @@ Inv-loop r stages k y x₀ p₀ x p = (p ≤ r) × Holds x (placed (stageAt stag
 abbrev μ-loop : tie.MeasureT-loop
 μ-loop r stages k y x₀ p₀ x p = r - p
 
-loop-holds : tie.Need-loop-holds Inv-loop μ-loop
-loop-holds c = (search needs, placed-begins _ _ (c .pre .3))
-
 unpack-row-requires : tie.Need-unpack-row-requires Inv-loop μ-loop
 unpack-row-requires c κs = (c .before .loop-test .taken, c .before .before .before .pre .0, c .before .before .before .pre .1, c .before .before .before .pre .2, c .before .before .loop .inv .1 .long)
-
-add-p : tie.Need-add-p Inv-loop μ-loop
-add-p c = search needs
-
-loop-less : tie.Need-loop-less Inv-loop μ-loop
-loop-less c = search needs
 
 loop-again : tie.Need-loop-again Inv-loop μ-loop
 loop-again c =
@@ -40,4 +31,4 @@ returns c =
 pub unpack-spec : {M : Type 1} → statement M
 unpack-spec =
     tie.close
-    (tie.spec Inv-loop μ-loop loop-holds unpack-row-requires add-p loop-less loop-again returns)
+    (tie.spec Inv-loop μ-loop (λ c. (search needs, placed-begins _ _ (c .pre .3))) unpack-row-requires (λ c. search needs) (λ c. search needs) loop-again returns)

@@ -17,29 +17,14 @@ Inv-loop r p stages k y x₀ i factor q₀ x q = (q ≤ r) × Holds x (replace i
 abbrev μ-loop : tie.MeasureT-loop
 μ-loop r p stages k y x₀ i factor q₀ x q = r - q
 
-stage-requires : tie.Need-stage-requires Inv-loop μ-loop
-stage-requires c κs = search needs
-
 get-requires : tie.Need-get-requires Inv-loop μ-loop
 get-requires c κs = (stage-below (c .before .pre .1) (c .before .pre .0) (c .stage .ensures), c .before .pre .2)
 
 loop-holds : tie.Need-loop-holds Inv-loop μ-loop
 loop-holds c = (search needs, scatter-begins _ _ _ (c .before .before .pre .4))
 
-stage-requires-2 : tie.Need-stage-requires-2 Inv-loop μ-loop
-stage-requires-2 c κs = search needs
-
-get-requires-2 : tie.Need-get-requires-2 Inv-loop μ-loop
-get-requires-2 c κs = search needs
-
 put-requires : tie.Need-put-requires Inv-loop μ-loop
 put-requires c κs = (stage-below (c .before .before .before .before .before .before .before .pre .1) (c .before .before .before .before .before .before .before .pre .0) (c .before .before .before .before .before .before .stage .ensures), stage-below (c .before .before .before .before .before .before .before .pre .1) (c .before .before .before .loop-test .taken) (c .before .before .stage2 .ensures), c .before .before .before .before .loop .inv .1 .long)
-
-add-q : tie.Need-add-q Inv-loop μ-loop
-add-q c = search needs
-
-loop-less : tie.Need-loop-less Inv-loop μ-loop
-loop-less c = search needs
 
 loop-again : tie.Need-loop-again Inv-loop μ-loop
 loop-again c = (omega arith, scatter-turns _ _ _ (table32 (c .before .before .before .before .before .before .before .before .args .x .now)) _ (c .before .before .before .before .before .loop .inv .1) (c .put .ensures) (c .before .before .before .stage2 .ensures) (cc))
@@ -55,13 +40,13 @@ unpack-row-spec =
     (tie.spec
     Inv-loop
     μ-loop
-    stage-requires
+    (λ c κs. search needs)
     get-requires
     loop-holds
-    stage-requires-2
-    get-requires-2
+    (λ c κs. search needs)
+    (λ c κs. search needs)
     put-requires
-    add-q
-    loop-less
+    (λ c. search needs)
+    (λ c. search needs)
     loop-again
     returns)

@@ -20,27 +20,6 @@ Inv-loop n c i h w x sum₀ l₀ sum l = (l ≤ n) × (sum ≡ sumWith (knows c 
 abbrev μ-loop : tie.MeasureT-loop
 μ-loop n c i h w x sum₀ l₀ sum l = n - l
 
-loop-holds : tie.Need-loop-holds Inv-loop μ-loop
-loop-holds c = (search needs, zero-word ∙ sym (sumWith-none _ _))
-
-is-known-requires : tie.Need-is-known-requires Inv-loop μ-loop
-is-known-requires c κs = search needs
-
-get-requires : tie.Need-get-requires Inv-loop μ-loop
-get-requires c κs = search needs
-
-get-requires-2 : tie.Need-get-requires-2 Inv-loop μ-loop
-get-requires-2 c κs = search needs
-
-add-known-requires : tie.Need-add-known-requires Inv-loop μ-loop
-add-known-requires c κs = search needs
-
-add-l : tie.Need-add-l Inv-loop μ-loop
-add-l c = search needs
-
-loop-less : tie.Need-loop-less Inv-loop μ-loop
-loop-less c = search needs
-
 loop-again : tie.Need-loop-again Inv-loop μ-loop
 loop-again c = (omega arith, with-turns _ _ _ (c .before .before .before .before .before .loop .inv .1) (c .before .before .before .is-known .ensures) (cc) (c .add-known .ensures))
 
@@ -53,12 +32,12 @@ column-sum-spec =
     (tie.spec
     Inv-loop
     μ-loop
-    loop-holds
-    is-known-requires
-    get-requires
-    get-requires-2
-    add-known-requires
-    add-l
-    loop-less
+    (λ c. (search needs, zero-word ∙ sym (sumWith-none _ _)))
+    (λ c κs. search needs)
+    (λ c κs. search needs)
+    (λ c κs. search needs)
+    (λ c κs. search needs)
+    (λ c. search needs)
+    (λ c. search needs)
     loop-again
     returns)

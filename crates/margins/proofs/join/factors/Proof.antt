@@ -16,21 +16,6 @@ Inv-loop n c p t w₀ l₀ w l = (l ≤ n) × IsVector w (between 0 l (λ m. tab
 abbrev μ-loop : tie.MeasureT-loop
 μ-loop n c p t w₀ l₀ w l = n - l
 
-loop-holds : tie.Need-loop-holds Inv-loop μ-loop
-loop-holds c = (search needs, vector-begins _ (c .pre .3))
-
-get-requires : tie.Need-get-requires Inv-loop μ-loop
-get-requires c κs = search needs
-
-put-requires : tie.Need-put-requires Inv-loop μ-loop
-put-requires c κs = (omega arith, c .before .before .before .loop .inv .1 .long)
-
-add-l : tie.Need-add-l Inv-loop μ-loop
-add-l c = search needs
-
-loop-less : tie.Need-loop-less Inv-loop μ-loop
-loop-less c = search needs
-
 loop-again : tie.Need-loop-again Inv-loop μ-loop
 loop-again c = (omega arith, vector-turns _ _ _ (c .before .before .before .before .loop .inv .1) (c .put .ensures) (cc))
 
@@ -43,10 +28,10 @@ factors-spec =
     (tie.spec
     Inv-loop
     μ-loop
-    loop-holds
-    get-requires
-    put-requires
-    add-l
-    loop-less
+    (λ c. (search needs, vector-begins _ (c .pre .3)))
+    (λ c κs. search needs)
+    (λ c κs. (omega arith, c .before .before .before .loop .inv .1 .long))
+    (λ c. search needs)
+    (λ c. search needs)
     loop-again
     returns)

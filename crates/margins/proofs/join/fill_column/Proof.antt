@@ -17,17 +17,8 @@ Inv-loop n c h w x₀ i₀ x i = (i ≤ n) × Down 0 (λ a. columnRow n (knows c
 abbrev μ-loop : tie.MeasureT-loop
 μ-loop n c h w x₀ i₀ x i = n - i
 
-loop-holds : tie.Need-loop-holds Inv-loop μ-loop
-loop-holds c = (search needs, down-begins refl (c .pre .4))
-
 fill-place-requires : tie.Need-fill-place-requires Inv-loop μ-loop
 fill-place-requires c κs = (c .before .before .before .pre .0, c .before .before .before .pre .1, omega arith, c .before .before .before .pre .2, c .before .before .before .pre .3, c .before .before .loop .inv .1 .holds .long)
-
-add-i : tie.Need-add-i Inv-loop μ-loop
-add-i c = search needs
-
-loop-less : tie.Need-loop-less Inv-loop μ-loop
-loop-less c = search needs
 
 loop-again : tie.Need-loop-again Inv-loop μ-loop
 loop-again c =
@@ -40,4 +31,4 @@ returns c = down-ends (c .before .loop .inv .1) (omega arith) (omega arith)
 pub fill-column-spec : {M : Type 1} → statement M
 fill-column-spec =
     tie.close
-    (tie.spec Inv-loop μ-loop loop-holds fill-place-requires add-i loop-less loop-again returns)
+    (tie.spec Inv-loop μ-loop (λ c. (search needs, down-begins refl (c .pre .4))) fill-place-requires (λ c. search needs) (λ c. search needs) loop-again returns)

@@ -8,15 +8,6 @@ use Rattle.margins.proofs.JoinLaws.{place-filled, place-left}
 use Rattle.margins.proofs.join.fill_place.Statement.{statement}
 use Rattle.margins.proofs.join.fill_place.Tie as tie
 
-is-known-requires : tie.Need-is-known-requires
-is-known-requires c κs = search needs
-
-column-sum-requires : tie.Need-column-sum-requires
-column-sum-requires c κs = search needs
-
-put-requires : tie.Need-put-requires
-put-requires c κs = search needs
-
 returns : tie.Need-returns
 returns c =
     let s = c .before .before .before .before .before .before .args in
@@ -29,4 +20,4 @@ returns-2 c =
 
 pub fill-place-spec : {M : Type 1} → statement M
 fill-place-spec =
-    tie.close (tie.spec is-known-requires column-sum-requires put-requires returns returns-2)
+    tie.close (tie.spec (λ c κs. search needs) (λ c κs. search needs) (λ c κs. search needs) returns returns-2)

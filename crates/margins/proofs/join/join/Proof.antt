@@ -9,21 +9,6 @@ use Rattle.margins.proofs.JoinLaws.{joined-whole}
 use Rattle.margins.proofs.join.join.Statement.{statement}
 use Rattle.margins.proofs.join.join.Tie as tie
 
-get-requires : tie.Need-get-requires
-get-requires c κs = search needs
-
-factors-requires : tie.Need-factors-requires
-factors-requires c κs = search needs
-
-join-in-range-requires : tie.Need-join-in-range-requires
-join-in-range-requires c κs = search needs
-
-fill-column-requires : tie.Need-fill-column-requires
-fill-column-requires c κs = search needs
-
-fill-row-requires : tie.Need-fill-row-requires
-fill-row-requires c κs = search needs
-
 returns : tie.Need-returns
 returns c =
     let s = c .before .before .before .before .before .before .before .before .before .before .before .args in
@@ -33,9 +18,9 @@ pub join-spec : {M : Type 1} → statement M
 join-spec =
     tie.close
     (tie.spec
-    get-requires
-    factors-requires
-    join-in-range-requires
-    fill-column-requires
-    fill-row-requires
+    (λ c κs. search needs)
+    (λ c κs. search needs)
+    (λ c κs. search needs)
+    (λ c κs. search needs)
+    (λ c κs. search needs)
     returns)

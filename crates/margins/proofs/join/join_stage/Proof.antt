@@ -5,15 +5,6 @@ use Rattle.margins.proofs.Joining.{due-kept, due-joins}
 use Rattle.margins.proofs.join.join_stage.Statement.{statement}
 use Rattle.margins.proofs.join.join_stage.Tie as tie
 
-sub-c : tie.Need-sub-c
-sub-c c = search needs
-
-sub-c-2 : tie.Need-sub-c-2
-sub-c-2 c = search needs
-
-is-kept-requires : tie.Need-is-kept-requires
-is-kept-requires c κs = (omega arith, c .pre .3 .h-long)
-
 returns : tie.Need-returns
 returns c =
     let s = c .before .before in
@@ -29,4 +20,4 @@ returns-2 c =
 
 pub join-stage-spec : {M : Type 1} → statement M
 join-stage-spec =
-    tie.close (tie.spec sub-c sub-c-2 is-kept-requires returns join-requires returns-2)
+    tie.close (tie.spec (λ c. search needs) (λ c. search needs) (λ c κs. (omega arith, c .pre .3 .h-long)) returns join-requires returns-2)

@@ -14,17 +14,8 @@ Inv-loop n t h a x₀ ok₀ q₀ x ok q = (q ≤ n) × StagesJoin n (table32 t) 
 abbrev μ-loop : tie.MeasureT-loop
 μ-loop n t h a x₀ ok₀ q₀ x ok q = n - q
 
-loop-holds : tie.Need-loop-holds Inv-loop μ-loop
-loop-holds c = (search needs, joins-begin (c .pre .3))
-
 join-stage-requires : tie.Need-join-stage-requires Inv-loop μ-loop
 join-stage-requires c κs = (c .before .loop-test .taken, c .before .before .before .pre .0, c .before .before .before .pre .1, c .before .before .before .pre .2, c .before .before .loop .inv .1 .table)
-
-add-q : tie.Need-add-q Inv-loop μ-loop
-add-q c = search needs
-
-loop-less : tie.Need-loop-less Inv-loop μ-loop
-loop-less c = search needs
 
 loop-again : tie.Need-loop-again Inv-loop μ-loop
 loop-again c = (omega arith, joins-turn (c .before .before .before .loop .inv .1) (c .join-stage .ensures))
@@ -35,4 +26,4 @@ returns c = joins-end (c .before .loop .inv .1) (omega arith) (omega arith)
 pub join-stages-spec : {M : Type 1} → statement M
 join-stages-spec =
     tie.close
-    (tie.spec Inv-loop μ-loop loop-holds join-stage-requires add-q loop-less loop-again returns)
+    (tie.spec Inv-loop μ-loop (λ c. (search needs, joins-begin (c .pre .3))) join-stage-requires (λ c. search needs) (λ c. search needs) loop-again returns)

@@ -17,18 +17,6 @@ Inv-loop n c h w x ok₀ i₀ ok i = (i ≤ n) × Gathered (λ a. not (knows c h
 abbrev μ-loop : tie.MeasureT-loop
 μ-loop n c h w x ok₀ i₀ ok i = n - i
 
-loop-holds : tie.Need-loop-holds Inv-loop μ-loop
-loop-holds c = (search needs, gathered-begins refl)
-
-known-place-in-range-requires : tie.Need-known-place-in-range-requires Inv-loop μ-loop
-known-place-in-range-requires c κs = search needs
-
-add-i : tie.Need-add-i Inv-loop μ-loop
-add-i c = search needs
-
-loop-less : tie.Need-loop-less Inv-loop μ-loop
-loop-less c = search needs
-
 loop-again : tie.Need-loop-again Inv-loop μ-loop
 loop-again c = (omega arith, gathered-turns (c .before .before .loop .inv .1) (c .known-place-in-range .ensures))
 
@@ -41,9 +29,9 @@ column-in-range-spec =
     (tie.spec
     Inv-loop
     μ-loop
-    loop-holds
-    known-place-in-range-requires
-    add-i
-    loop-less
+    (λ c. (search needs, gathered-begins refl))
+    (λ c κs. search needs)
+    (λ c. search needs)
+    (λ c. search needs)
     loop-again
     returns)

@@ -17,24 +17,6 @@ Inv-loop n c p t h ok₀ l₀ ok l = (l ≤ n) × Gathered (λ m. not (knows c h
 abbrev μ-loop : tie.MeasureT-loop
 μ-loop n c p t h ok₀ l₀ ok l = n - l
 
-loop-holds : tie.Need-loop-holds Inv-loop μ-loop
-loop-holds c = (search needs, gathered-begins refl)
-
-is-known-requires : tie.Need-is-known-requires Inv-loop μ-loop
-is-known-requires c κs = search needs
-
-get-requires : tie.Need-get-requires Inv-loop μ-loop
-get-requires c κs = search needs
-
-div-in-range-requires : tie.Need-div-in-range-requires Inv-loop μ-loop
-div-in-range-requires c κs = search needs
-
-add-l : tie.Need-add-l Inv-loop μ-loop
-add-l c = search needs
-
-loop-less : tie.Need-loop-less Inv-loop μ-loop
-loop-less c = search needs
-
 loop-again : tie.Need-loop-again Inv-loop μ-loop
 loop-again c = (omega arith, gathered-turns (c .before .before .before .before .loop .inv .1) (cc))
 
@@ -47,11 +29,11 @@ factors-in-range-spec =
     (tie.spec
     Inv-loop
     μ-loop
-    loop-holds
-    is-known-requires
-    get-requires
-    div-in-range-requires
-    add-l
-    loop-less
+    (λ c. (search needs, gathered-begins refl))
+    (λ c κs. search needs)
+    (λ c κs. search needs)
+    (λ c κs. search needs)
+    (λ c. search needs)
+    (λ c. search needs)
     loop-again
     returns)

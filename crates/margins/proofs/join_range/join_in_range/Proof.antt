@@ -5,15 +5,6 @@ use Rattle.margins.proofs.Loops.{one-word}
 use Rattle.margins.proofs.join_range.join_in_range.Statement.{statement}
 use Rattle.margins.proofs.join_range.join_in_range.Tie as tie
 
-div-in-range-requires : tie.Need-div-in-range-requires
-div-in-range-requires c κs = search needs
-
-factors-in-range-requires : tie.Need-factors-in-range-requires
-factors-in-range-requires c κs = search needs
-
-column-in-range-requires : tie.Need-column-in-range-requires
-column-in-range-requires c κs = search needs
-
 returns : tie.Need-returns
 unfolding joinTest
 returns c = rw (c .before .before .div-in-range .ensures, c .before .factors-in-range .ensures, c .column-in-range .ensures, one-word)
@@ -21,4 +12,4 @@ returns c = rw (c .before .before .div-in-range .ensures, c .before .factors-in-
 pub join-in-range-spec : {M : Type 1} → statement M
 join-in-range-spec =
     tie.close
-    (tie.spec div-in-range-requires factors-in-range-requires column-in-range-requires returns)
+    (tie.spec (λ c κs. search needs) (λ c κs. search needs) (λ c κs. search needs) returns)

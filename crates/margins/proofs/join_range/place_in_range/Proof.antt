@@ -29,30 +29,6 @@ abbrev μ-loop : tie.MeasureT-loop
 loop-holds : tie.Need-loop-holds Inv-loop μ-loop
 loop-holds c = (search needs, zero-word ∙ sym (sumWith-none _ _), with-none _ _, gathered-begins refl)
 
-is-known-requires : tie.Need-is-known-requires Inv-loop μ-loop
-is-known-requires c κs = search needs
-
-get-requires : tie.Need-get-requires Inv-loop μ-loop
-get-requires c κs = search needs
-
-get-requires-2 : tie.Need-get-requires-2 Inv-loop μ-loop
-get-requires-2 c κs = search needs
-
-mul-in-range-requires : tie.Need-mul-in-range-requires Inv-loop μ-loop
-mul-in-range-requires c κs = search needs
-
-add-in-range-requires : tie.Need-add-in-range-requires Inv-loop μ-loop
-add-in-range-requires c κs = search needs
-
-add-known-requires : tie.Need-add-known-requires Inv-loop μ-loop
-add-known-requires c κs = search needs
-
-add-l : tie.Need-add-l Inv-loop μ-loop
-add-l c = search needs
-
-loop-less : tie.Need-loop-less Inv-loop μ-loop
-loop-less c = search needs
-
 loop-again : tie.Need-loop-again Inv-loop μ-loop
 loop-again c =
     let k = c .before .before .before .before .before .is-known .ensures in
@@ -72,13 +48,13 @@ place-in-range-spec =
     Inv-loop
     μ-loop
     loop-holds
-    is-known-requires
-    get-requires
-    get-requires-2
-    mul-in-range-requires
-    add-in-range-requires
-    add-known-requires
-    add-l
-    loop-less
+    (λ c κs. search needs)
+    (λ c κs. search needs)
+    (λ c κs. search needs)
+    (λ c κs. search needs)
+    (λ c κs. search needs)
+    (λ c κs. search needs)
+    (λ c. search needs)
+    (λ c. search needs)
     loop-again
     returns)

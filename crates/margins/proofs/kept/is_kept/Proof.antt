@@ -7,12 +7,9 @@ use Rattle.margins.proofs.Loops.{zero-word}
 use Rattle.margins.proofs.kept.is_kept.Statement.{statement}
 use Rattle.margins.proofs.kept.is_kept.Tie as tie
 
-get-requires : tie.Need-get-requires
-get-requires c κs = search needs
-
 returns : tie.Need-returns
 unfolding keeps isZero ne
 returns c = rw (zero-word, c .get .ensures)
 
 pub is-kept-spec : {M : Type 1} → statement M
-is-kept-spec = tie.close (tie.spec get-requires returns)
+is-kept-spec = tie.close (tie.spec (λ c κs. search needs) returns)

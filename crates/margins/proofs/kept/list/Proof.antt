@@ -20,19 +20,10 @@ loop-holds c = (search needs, listing-none (keeps (c .args .h .now)) (c .pre .2)
 list-stage-requires : tie.Need-list-stage-requires Inv-loop μ-loop
 list-stage-requires c κs = (omega arith, c .before .before .before .pre .1, c .before .before .loop .inv .1)
 
-add-i : tie.Need-add-i Inv-loop μ-loop
-add-i c = search needs
-
-loop-less : tie.Need-loop-less Inv-loop μ-loop
-loop-less c = search needs
-
-loop-again : tie.Need-loop-again Inv-loop μ-loop
-loop-again c = (omega arith, rw add-one (c .list-stage .ensures))
-
 returns : tie.Need-returns Inv-loop μ-loop
 returns c = listing-all (keeps (c .before .before .args .h .now)) (c .before .loop .inv .1) (omega arith) (omega arith)
 
 pub list-spec : {M : Type 1} → statement M
 list-spec =
     tie.close
-    (tie.spec Inv-loop μ-loop loop-holds list-stage-requires add-i loop-less loop-again returns)
+    (tie.spec Inv-loop μ-loop loop-holds list-stage-requires (λ c. search needs) (λ c. search needs) (λ c. (omega arith, rw add-one (c .list-stage .ensures))) returns)

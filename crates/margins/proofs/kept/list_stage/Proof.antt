@@ -7,9 +7,6 @@ use Rattle.margins.proofs.CompactLaws.{listing-room, listing-take, list
 use Rattle.margins.proofs.kept.list_stage.Statement.{statement}
 use Rattle.margins.proofs.kept.list_stage.Tie as tie
 
-is-kept-requires : tie.Need-is-kept-requires
-is-kept-requires c κs = search needs
-
 mul-stages : tie.Need-mul-stages
 mul-stages c = let l = listing-room (keeps (c .before .before .args .h .now)) (c .before .before .pre .2) (c .before .before .pre .0) in omega arith
 
@@ -28,4 +25,4 @@ returns-2 c = listing-leave (keeps (c .before .before .args .h .now)) (c .before
 pub list-stage-spec : {M : Type 1} → statement M
 list-stage-spec =
     tie.close
-    (tie.spec is-kept-requires mul-stages element-write-stages add-result returns returns-2)
+    (tie.spec (λ c κs. search needs) mul-stages element-write-stages add-result returns returns-2)

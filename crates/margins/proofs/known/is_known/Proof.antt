@@ -7,12 +7,9 @@ use Rattle.margins.specs.Join.{knows}
 use Rattle.margins.proofs.known.is_known.Statement.{statement}
 use Rattle.margins.proofs.known.is_known.Tie as tie
 
-is-kept-requires : tie.Need-is-kept-requires
-is-kept-requires c κs = search needs
-
 returns : tie.Need-returns
 unfolding knows
 returns c = ap (λ (b : Bool). b || ltb (c .before .args .c) (c .before .args .i)) (c .is-kept .ensures)
 
 pub is-known-spec : {M : Type 1} → statement M
-is-known-spec = tie.close (tie.spec is-kept-requires returns)
+is-known-spec = tie.close (tie.spec (λ c κs. search needs) returns)

@@ -15,23 +15,8 @@ Inv-loop n i start t ok₀ sum₀ j₀ ok sum j = (j ≤ n) × Summed start (tab
 abbrev μ-loop : tie.MeasureT-loop
 μ-loop n i start t ok₀ sum₀ j₀ ok sum j = n - j
 
-add-j : tie.Need-add-j Inv-loop μ-loop
-add-j c = search needs
-
 loop-holds : tie.Need-loop-holds Inv-loop μ-loop
 loop-holds c = (search needs, summed-begins (add-one (c .args .i)) refl, sum-gathered-begins (add-one (c .args .i)))
-
-get-requires : tie.Need-get-requires Inv-loop μ-loop
-get-requires c κs = search needs
-
-add-in-range-requires : tie.Need-add-in-range-requires Inv-loop μ-loop
-add-in-range-requires c κs = search needs
-
-add-j-2 : tie.Need-add-j-2 Inv-loop μ-loop
-add-j-2 c = search needs
-
-loop-less : tie.Need-loop-less Inv-loop μ-loop
-loop-less c = search needs
 
 loop-again : tie.Need-loop-again Inv-loop μ-loop
 loop-again c =
@@ -47,11 +32,11 @@ after-in-range-spec =
     (tie.spec
     Inv-loop
     μ-loop
-    add-j
+    (λ c. search needs)
     loop-holds
-    get-requires
-    add-in-range-requires
-    add-j-2
-    loop-less
+    (λ c κs. search needs)
+    (λ c κs. search needs)
+    (λ c. search needs)
+    (λ c. search needs)
     loop-again
     returns)

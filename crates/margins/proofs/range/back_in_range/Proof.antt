@@ -18,9 +18,6 @@ Inv-loop r stages k y ok₀ p₀ ok p = (p ≤ r) × Gathered (λ o. all (λ q. 
 abbrev μ-loop : tie.MeasureT-loop
 μ-loop r stages k y ok₀ p₀ ok p = r - p
 
-loop-holds : tie.Need-loop-holds Inv-loop μ-loop
-loop-holds c = (search needs, gathered-begins refl)
-
 stage-requires : tie.Need-stage-requires Inv-loop μ-loop
 stage-requires c κs = (omega (arith, c .before .before .pre .0 .room), c .before .before .pre .0 .long)
 
@@ -29,12 +26,6 @@ get-requires c κs = (stage-below (c .before .before .before .pre .0) (c .before
 
 row-back-in-range-requires : tie.Need-row-back-in-range-requires Inv-loop μ-loop
 row-back-in-range-requires c κs = (c .before .before .loop-test .taken, c .before .before .before .before .pre .0 .room, c .before .before .before .before .pre .2)
-
-add-p : tie.Need-add-p Inv-loop μ-loop
-add-p c = search needs
-
-loop-less : tie.Need-loop-less Inv-loop μ-loop
-loop-less c = search needs
 
 loop-again : tie.Need-loop-again Inv-loop μ-loop
 loop-again c = (omega arith, gathered-turns (c .before .before .before .before .loop .inv .1) (c .row-back-in-range .ensures ∙ rw (c .before .get .ensures, c .before .before .stage .ensures)))
@@ -48,11 +39,11 @@ back-in-range-spec =
     (tie.spec
     Inv-loop
     μ-loop
-    loop-holds
+    (λ c. (search needs, gathered-begins refl))
     stage-requires
     get-requires
     row-back-in-range-requires
-    add-p
-    loop-less
+    (λ c. search needs)
+    (λ c. search needs)
     loop-again
     returns)

@@ -26,24 +26,6 @@ abbrev μ-loop : tie.MeasureT-loop
 loop-holds : tie.Need-loop-holds Inv-loop μ-loop
 loop-holds c = (search needs, summed-begins refl zero-word, sum-gathered-begins refl, gathered-begins refl)
 
-get-requires : tie.Need-get-requires Inv-loop μ-loop
-get-requires c κs = search needs
-
-get-requires-2 : tie.Need-get-requires-2 Inv-loop μ-loop
-get-requires-2 c κs = search needs
-
-mul-in-range-requires : tie.Need-mul-in-range-requires Inv-loop μ-loop
-mul-in-range-requires c κs = search needs
-
-add-in-range-requires : tie.Need-add-in-range-requires Inv-loop μ-loop
-add-in-range-requires c κs = search needs
-
-add-j : tie.Need-add-j Inv-loop μ-loop
-add-j c = search needs
-
-loop-less : tie.Need-loop-less Inv-loop μ-loop
-loop-less c = search needs
-
 loop-again : tie.Need-loop-again Inv-loop μ-loop
 loop-again c =
     let l = c .before .before .before .before .before .loop in
@@ -62,11 +44,11 @@ before-in-range-spec =
     Inv-loop
     μ-loop
     loop-holds
-    get-requires
-    get-requires-2
-    mul-in-range-requires
-    add-in-range-requires
-    add-j
-    loop-less
+    (λ c κs. search needs)
+    (λ c κs. search needs)
+    (λ c κs. search needs)
+    (λ c κs. search needs)
+    (λ c. search needs)
+    (λ c. search needs)
     loop-again
     returns)

@@ -24,35 +24,8 @@ Inv-loop n i t a products₀ sums₀ sum₀ j₀ products sums sum j =
 abbrev μ-loop : tie.MeasureT-loop
 μ-loop n i t a products₀ sums₀ sum₀ j₀ products sums sum j = n - j
 
-add-j : tie.Need-add-j Inv-loop μ-loop
-add-j c = search needs
-
 loop-holds : tie.Need-loop-holds Inv-loop μ-loop
 loop-holds c = (search needs, summed-begins (add-one (c .args .i)) zero-word, sum-gathered-begins (add-one (c .args .i)), gathered-begins (add-one (c .args .i)))
-
-get-requires : tie.Need-get-requires Inv-loop μ-loop
-get-requires c κs = search needs
-
-get-requires-2 : tie.Need-get-requires-2 Inv-loop μ-loop
-get-requires-2 c κs = search needs
-
-get-requires-3 : tie.Need-get-requires-3 Inv-loop μ-loop
-get-requires-3 c κs = search needs
-
-div-in-range-requires : tie.Need-div-in-range-requires Inv-loop μ-loop
-div-in-range-requires c κs = search needs
-
-mul-in-range-requires : tie.Need-mul-in-range-requires Inv-loop μ-loop
-mul-in-range-requires c κs = search needs
-
-add-in-range-requires : tie.Need-add-in-range-requires Inv-loop μ-loop
-add-in-range-requires c κs = search needs
-
-add-j-2 : tie.Need-add-j-2 Inv-loop μ-loop
-add-j-2 c = search needs
-
-loop-less : tie.Need-loop-less Inv-loop μ-loop
-loop-less c = search needs
 
 loop-again : tie.Need-loop-again Inv-loop μ-loop
 loop-again c =
@@ -71,15 +44,15 @@ rate-in-range-spec =
     (tie.spec
     Inv-loop
     μ-loop
-    add-j
+    (λ c. search needs)
     loop-holds
-    get-requires
-    get-requires-2
-    get-requires-3
-    div-in-range-requires
-    mul-in-range-requires
-    add-in-range-requires
-    add-j-2
-    loop-less
+    (λ c κs. search needs)
+    (λ c κs. search needs)
+    (λ c κs. search needs)
+    (λ c κs. search needs)
+    (λ c κs. search needs)
+    (λ c κs. search needs)
+    (λ c. search needs)
+    (λ c. search needs)
     loop-again
     returns)

@@ -16,17 +16,8 @@ Inv-loop n t h a k ok₀ i₀ ok i = (i ≤ n) × Gathered (ratioInRange n (tabl
 abbrev μ-loop : tie.MeasureT-loop
 μ-loop n t h a k ok₀ i₀ ok i = n - i
 
-loop-holds : tie.Need-loop-holds Inv-loop μ-loop
-loop-holds c = (search needs, gathered-begins refl)
-
 ratio-in-range-requires : tie.Need-ratio-in-range-requires Inv-loop μ-loop
 ratio-in-range-requires c κs = (c .loop-test .taken, c .before .before .pre .0, c .before .before .pre .1, c .before .before .pre .2)
-
-add-i : tie.Need-add-i Inv-loop μ-loop
-add-i c = search needs
-
-loop-less : tie.Need-loop-less Inv-loop μ-loop
-loop-less c = search needs
 
 loop-again : tie.Need-loop-again Inv-loop μ-loop
 loop-again c = (omega arith, gathered-turns (c .before .before .loop .inv .1) (c .ratio-in-range .ensures))
@@ -40,9 +31,9 @@ ratios-in-range-spec =
     (tie.spec
     Inv-loop
     μ-loop
-    loop-holds
+    (λ c. (search needs, gathered-begins refl))
     ratio-in-range-requires
-    add-i
-    loop-less
+    (λ c. search needs)
+    (λ c. search needs)
     loop-again
     returns)

@@ -15,21 +15,6 @@ Inv-loop r p factor y ok₀ q₀ ok q = (q ≤ r) × Gathered (λ o. mulInRange 
 abbrev μ-loop : tie.MeasureT-loop
 μ-loop r p factor y ok₀ q₀ ok q = r - q
 
-loop-holds : tie.Need-loop-holds Inv-loop μ-loop
-loop-holds c = (search needs, gathered-begins refl)
-
-get-requires : tie.Need-get-requires Inv-loop μ-loop
-get-requires c κs = search needs
-
-mul-in-range-requires : tie.Need-mul-in-range-requires Inv-loop μ-loop
-mul-in-range-requires c κs = search needs
-
-add-q : tie.Need-add-q Inv-loop μ-loop
-add-q c = search needs
-
-loop-less : tie.Need-loop-less Inv-loop μ-loop
-loop-less c = search needs
-
 loop-again : tie.Need-loop-again Inv-loop μ-loop
 loop-again c = (omega arith, gathered-turns (c .before .before .before .loop .inv .1) (cc))
 
@@ -42,10 +27,10 @@ row-back-in-range-spec =
     (tie.spec
     Inv-loop
     μ-loop
-    loop-holds
-    get-requires
-    mul-in-range-requires
-    add-q
-    loop-less
+    (λ c. (search needs, gathered-begins refl))
+    (λ c κs. search needs)
+    (λ c κs. search needs)
+    (λ c. search needs)
+    (λ c. search needs)
     loop-again
     returns)

@@ -24,9 +24,6 @@ Inv-loop n r stages t a k ok₀ p₀ ok p =
 abbrev μ-loop : tie.MeasureT-loop
 μ-loop n r stages t a k ok₀ p₀ ok p = r - p
 
-loop-holds : tie.Need-loop-holds Inv-loop μ-loop
-loop-holds c = (search needs, gathered-begins refl)
-
 stage-requires : tie.Need-stage-requires Inv-loop μ-loop
 stage-requires c κs = (omega (arith, c .before .before .pre .1 .room), c .before .before .pre .1 .long)
 
@@ -35,12 +32,6 @@ sizes-in-range-requires c κs = (stage-below (stages-wider (c .before .before .b
 
 rate-in-range-requires : tie.Need-rate-in-range-requires Inv-loop μ-loop
 rate-in-range-requires c κs = (stage-below (c .before .before .before .before .pre .1) (c .before .before .loop-test .taken) (c .before .stage .ensures), c .before .before .before .before .pre .0, c .before .before .before .before .pre .2, c .before .before .before .before .pre .3)
-
-add-p : tie.Need-add-p Inv-loop μ-loop
-add-p c = search needs
-
-loop-less : tie.Need-loop-less Inv-loop μ-loop
-loop-less c = search needs
 
 loop-again : tie.Need-loop-again Inv-loop μ-loop
 loop-again c = (omega arith, gathered-turns (c .before .before .before .before .loop .inv .1) (rw (c .before .sizes-in-range .ensures, c .rate-in-range .ensures, c .before .before .stage .ensures)))
@@ -54,11 +45,11 @@ scaled-in-range-spec =
     (tie.spec
     Inv-loop
     μ-loop
-    loop-holds
+    (λ c. (search needs, gathered-begins refl))
     stage-requires
     sizes-in-range-requires
     rate-in-range-requires
-    add-p
-    loop-less
+    (λ c. search needs)
+    (λ c. search needs)
     loop-again
     returns)

@@ -18,20 +18,8 @@ Inv-loop r i stages t k ok₀ q₀ ok q = (q ≤ r) × Gathered (λ o. sizeInRan
 abbrev μ-loop : tie.MeasureT-loop
 μ-loop r i stages t k ok₀ q₀ ok q = r - q
 
-loop-holds : tie.Need-loop-holds Inv-loop μ-loop
-loop-holds c = (search needs, gathered-begins refl)
-
-stage-requires : tie.Need-stage-requires Inv-loop μ-loop
-stage-requires c κs = search needs
-
 size-in-range-requires : tie.Need-size-in-range-requires Inv-loop μ-loop
 size-in-range-requires c κs = (c .before .before .before .pre .0, stage-below (c .before .before .before .pre .1) (c .before .loop-test .taken) (c .stage .ensures), c .before .before .before .pre .2, c .before .before .before .pre .3)
-
-add-q : tie.Need-add-q Inv-loop μ-loop
-add-q c = search needs
-
-loop-less : tie.Need-loop-less Inv-loop μ-loop
-loop-less c = search needs
 
 loop-again : tie.Need-loop-again Inv-loop μ-loop
 loop-again c = (omega arith, gathered-turns (c .before .before .before .loop .inv .1) (cc))
@@ -45,10 +33,10 @@ sizes-in-range-spec =
     (tie.spec
     Inv-loop
     μ-loop
-    loop-holds
-    stage-requires
+    (λ c. (search needs, gathered-begins refl))
+    (λ c κs. search needs)
     size-in-range-requires
-    add-q
-    loop-less
+    (λ c. search needs)
+    (λ c. search needs)
     loop-again
     returns)

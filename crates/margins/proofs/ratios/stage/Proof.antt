@@ -4,24 +4,6 @@ use Rattle.margins.proofs.RatioLaws.{ratios-grow}
 use Rattle.margins.proofs.ratios.stage.Statement.{statement}
 use Rattle.margins.proofs.ratios.stage.Tie as tie
 
-sum-before-requires : tie.Need-sum-before-requires
-sum-before-requires c κs = search needs
-
-sum-after-requires : tie.Need-sum-after-requires
-sum-after-requires c κs = search needs
-
-get-requires : tie.Need-get-requires
-get-requires c κs = search needs
-
-put-requires : tie.Need-put-requires
-put-requires c κs = search needs
-
-put-requires-2 : tie.Need-put-requires-2
-put-requires-2 c κs = search needs
-
-put-requires-3 : tie.Need-put-requires-3
-put-requires-3 c κs = search needs
-
 returns : tie.Need-returns
 returns c =
     let s = c .before .before .before .before .before .before .before .before .before .before in
@@ -31,10 +13,10 @@ pub stage-spec : {M : Type 1} → statement M
 stage-spec =
     tie.close
     (tie.spec
-    sum-before-requires
-    sum-after-requires
-    get-requires
-    put-requires
-    put-requires-2
-    put-requires-3
+    (λ c κs. search needs)
+    (λ c κs. search needs)
+    (λ c κs. search needs)
+    (λ c κs. search needs)
+    (λ c κs. search needs)
+    (λ c κs. search needs)
     returns)

@@ -15,21 +15,6 @@ Inv-loop n i start t sum₀ j₀ sum j = (j ≤ n) × Summed start (table32 t i)
 abbrev μ-loop : tie.MeasureT-loop
 μ-loop n i start t sum₀ j₀ sum j = n - j
 
-add-j : tie.Need-add-j Inv-loop μ-loop
-add-j c = search needs
-
-loop-holds : tie.Need-loop-holds Inv-loop μ-loop
-loop-holds c = (search needs, summed-begins (add-one (c .args .i)) refl)
-
-get-requires : tie.Need-get-requires Inv-loop μ-loop
-get-requires c κs = search needs
-
-add-j-2 : tie.Need-add-j-2 Inv-loop μ-loop
-add-j-2 c = search needs
-
-loop-less : tie.Need-loop-less Inv-loop μ-loop
-loop-less c = search needs
-
 loop-again : tie.Need-loop-again Inv-loop μ-loop
 loop-again c = (omega arith, summed-turns (c .before .before .loop .inv .1) (c .get .ensures))
 
@@ -39,4 +24,4 @@ returns c = summed-ends (c .before .loop .inv .1) (omega arith) (omega arith)
 pub sum-after-spec : {M : Type 1} → statement M
 sum-after-spec =
     tie.close
-    (tie.spec Inv-loop μ-loop add-j loop-holds get-requires add-j-2 loop-less loop-again returns)
+    (tie.spec Inv-loop μ-loop (λ c. search needs) (λ c. (search needs, summed-begins (add-one (c .args .i)) refl)) (λ c κs. search needs) (λ c. search needs) (λ c. search needs) loop-again returns)

@@ -17,21 +17,6 @@ Inv-loop i t k sum₀ j₀ sum j = (j ≤ i) × Summed 0·0 (λ l. table32 t i l
 abbrev μ-loop : tie.MeasureT-loop
 μ-loop i t k sum₀ j₀ sum j = i - j
 
-loop-holds : tie.Need-loop-holds Inv-loop μ-loop
-loop-holds c = (search needs, summed-begins refl zero-word)
-
-get-requires : tie.Need-get-requires Inv-loop μ-loop
-get-requires c κs = search needs
-
-get-requires-2 : tie.Need-get-requires-2 Inv-loop μ-loop
-get-requires-2 c κs = search needs
-
-add-j : tie.Need-add-j Inv-loop μ-loop
-add-j c = search needs
-
-loop-less : tie.Need-loop-less Inv-loop μ-loop
-loop-less c = search needs
-
 loop-again : tie.Need-loop-again Inv-loop μ-loop
 loop-again c = (omega arith, summed-turns (c .before .before .before .loop .inv .1) (cc))
 
@@ -44,10 +29,10 @@ sum-before-spec =
     (tie.spec
     Inv-loop
     μ-loop
-    loop-holds
-    get-requires
-    get-requires-2
-    add-j
-    loop-less
+    (λ c. (search needs, summed-begins refl zero-word))
+    (λ c κs. search needs)
+    (λ c κs. search needs)
+    (λ c. search needs)
+    (λ c. search needs)
     loop-again
     returns)

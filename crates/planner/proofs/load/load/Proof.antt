@@ -17,18 +17,6 @@ Inv-loop n sheet t₀ i₀ t i = (i ≤ n) × Down 0 (λ l. between 0 n (sheetPl
 abbrev μ-loop : tie.MeasureT-loop
 μ-loop n sheet t₀ i₀ t i = n - i
 
-loop-holds : tie.Need-loop-holds Inv-loop μ-loop
-loop-holds c = (search needs, down-begins refl (c .before .pre .1))
-
-load-row-requires : tie.Need-load-row-requires Inv-loop μ-loop
-load-row-requires c κs = search needs
-
-add-i : tie.Need-add-i Inv-loop μ-loop
-add-i c = search needs
-
-loop-less : tie.Need-loop-less Inv-loop μ-loop
-loop-less c = search needs
-
 loop-again : tie.Need-loop-again Inv-loop μ-loop
 unfolding loadedRow span
 loop-again c =
@@ -49,9 +37,9 @@ load-spec =
     (tie.spec
     Inv-loop
     μ-loop
-    loop-holds
-    load-row-requires
-    add-i
-    loop-less
+    (λ c. (search needs, down-begins refl (c .before .pre .1)))
+    (λ c κs. search needs)
+    (λ c. search needs)
+    (λ c. search needs)
     loop-again
     returns)

@@ -5,15 +5,6 @@ use Rattle.planner.proofs.Loading.{row-loaded}
 use Rattle.planner.proofs.load.load_row.Statement.{statement}
 use Rattle.planner.proofs.load.load_row.Tie as tie
 
-load-sizes-requires : tie.Need-load-sizes-requires
-load-sizes-requires c κs = search needs
-
-number-at-requires : tie.Need-number-at-requires
-number-at-requires c κs = search needs
-
-put-requires : tie.Need-put-requires
-put-requires c κs = search needs
-
 returns : tie.Need-returns
 returns c =
     let sizes = c .before .before .before in
@@ -22,4 +13,4 @@ returns c =
     row-loaded a.n (a.sheet .now) a.i (table32 (a.t .now)) (s .pre .1) (sizes .load-sizes .ensures) (c .before .before .number-at .ensures) (c .put .ensures)
 
 pub load-row-spec : {M : Type 1} → statement M
-load-row-spec = tie.close (tie.spec load-sizes-requires number-at-requires put-requires returns)
+load-row-spec = tie.close (tie.spec (λ c κs. search needs) (λ c κs. search needs) (λ c κs. search needs) returns)

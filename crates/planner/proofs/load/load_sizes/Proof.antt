@@ -16,21 +16,6 @@ Inv-loop n i sheet t₀ j₀ t j = (j ≤ n) × Along i 0 (size n sheet i) (tabl
 abbrev μ-loop : tie.MeasureT-loop
 μ-loop n i sheet t₀ j₀ t j = n - j
 
-loop-holds : tie.Need-loop-holds Inv-loop μ-loop
-loop-holds c = (search needs, along-begins refl (c .before .pre .2))
-
-number-at-requires : tie.Need-number-at-requires Inv-loop μ-loop
-number-at-requires c κs = search needs
-
-put-requires : tie.Need-put-requires Inv-loop μ-loop
-put-requires c κs = search needs
-
-add-j : tie.Need-add-j Inv-loop μ-loop
-add-j c = search needs
-
-loop-less : tie.Need-loop-less Inv-loop μ-loop
-loop-less c = search needs
-
 loop-again : tie.Need-loop-again Inv-loop μ-loop
 loop-again c =
     let l = c .before .before .before .before in
@@ -45,10 +30,10 @@ load-sizes-spec =
     (tie.spec
     Inv-loop
     μ-loop
-    loop-holds
-    number-at-requires
-    put-requires
-    add-j
-    loop-less
+    (λ c. (search needs, along-begins refl (c .before .pre .2)))
+    (λ c κs. search needs)
+    (λ c κs. search needs)
+    (λ c. search needs)
+    (λ c. search needs)
     loop-again
     returns)

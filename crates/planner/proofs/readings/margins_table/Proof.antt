@@ -4,16 +4,10 @@ use Rattle.planner.proofs.Stepped.{second-stepped}
 use Rattle.planner.proofs.readings.margins_table.Statement.{statement}
 use Rattle.planner.proofs.readings.margins_table.Tie as tie
 
-load-requires : tie.Need-load-requires
-load-requires c κs = search needs
-
-solve-margins-requires : tie.Need-solve-margins-requires
-solve-margins-requires c κs = search needs
-
 returns : tie.Need-returns
 returns c =
     let s = c .before .before .before .before .before .before in
     second-stepped _ (s .pre .0) (c .before .before .before .load .ensures) (c .solve-margins .ensures)
 
 pub margins-table-spec : {M : Type 1} → statement M
-margins-table-spec = tie.close (tie.spec load-requires solve-margins-requires returns)
+margins-table-spec = tie.close (tie.spec (λ c κs. search needs) (λ c κs. search needs) returns)

@@ -15,9 +15,6 @@ Inv-loop n x answer₀ i₀ answer i = FilledRows (table32 x) n answer₀ answer
 abbrev μ-loop : tie.MeasureT-loop
 μ-loop n x answer₀ i₀ answer i = n - i
 
-loop-holds : tie.Need-loop-holds Inv-loop μ-loop
-loop-holds c = rows-begin
-
 mul-from : tie.Need-mul-from Inv-loop μ-loop
 mul-from c = omega (arith, row-fits (c .loop-test .taken) (square-small (c .before .before .before .pre .0)))
 
@@ -27,34 +24,16 @@ add-to c = omega (arith, row-fits (c .loop-test .taken) (square-small (c .before
 mul-write-row : tie.Need-mul-write-row Inv-loop μ-loop
 mul-write-row c = omega (arith, row-fits (c .loop-test .taken) (square-small (c .before .before .before .pre .0)))
 
-sub-write-row : tie.Need-sub-write-row Inv-loop μ-loop
-sub-write-row c = omega arith
-
-part-write-row-start : tie.Need-part-write-row-start Inv-loop μ-loop
-part-write-row-start c = omega arith
-
 part-write-row-end : tie.Need-part-write-row-end Inv-loop μ-loop
 part-write-row-end c = rw (c .before .loop .inv .long) (row-fits (c .loop-test .taken) (c .before .before .before .pre .1))
 
 write-row-requires : tie.Need-write-row-requires Inv-loop μ-loop
 write-row-requires c κs = (omega arith, le-trans (part-short (c .before .before .loop .inv)) (c .before .before .before .before .pre .0), c .before .before .before .before .pre .2)
 
-add-i : tie.Need-add-i Inv-loop μ-loop
-add-i c = omega arith
-
-loop-less : tie.Need-loop-less Inv-loop μ-loop
-loop-less c = search needs
-
 loop-again : tie.Need-loop-again Inv-loop μ-loop
 loop-again c =
     let l = c .before .before .before .before .before in
     rows-turn (l .loop .inv) (c .before .before .before .before .loop-test .taken) (l .before .before .pre .1) (c .before .before .write-row .ensures)
-
-same-length : tie.Need-same-length Inv-loop μ-loop
-same-length c = c .before .loop .inv .long
-
-returns : tie.Need-returns Inv-loop μ-loop
-returns c = rows-end (c .before .loop .inv) (c .loop-test .left)
 
 pub write-spec : {M : Type 1} → statement M
 write-spec =
@@ -62,16 +41,16 @@ write-spec =
     (tie.spec
     Inv-loop
     μ-loop
-    loop-holds
+    (λ c. rows-begin)
     mul-from
     add-to
     mul-write-row
-    sub-write-row
-    part-write-row-start
+    (λ c. omega arith)
+    (λ c. omega arith)
     part-write-row-end
     write-row-requires
-    add-i
-    loop-less
+    (λ c. omega arith)
+    (λ c. search needs)
     loop-again
-    same-length
-    returns)
+    (λ c. c .before .loop .inv .long)
+    (λ c. rows-end (c .before .loop .inv) (c .loop-test .left)))
