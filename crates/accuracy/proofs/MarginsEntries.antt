@@ -27,6 +27,7 @@ use Rattle.accuracy.proofs.MarginsRange.{JoinRange, KnownRange}
 use Rattle.accuracy.proofs.MarginsRatios.{Setting, ratio-near, a-near-unkept, kept-tells}
 use Rattle.accuracy.proofs.MarginsCounts.{answerCount, entryCount}
 use Rattle.accuracy.proofs.MarginsKept.{near-both, start-near}
+use Rattle.exact.proofs.Bools.{or-false, or-true}
 
 -- m = t / a, and a is near A over D.
 near-quotient : (m a A t D w : ℕ) → Near 1 (m * a) (t * w) → Near 1 (a * D) A → Near 2 (m * A) (t * D * w)
@@ -48,27 +49,19 @@ computed-zero z =
     let none = ap (λ t. t * z) units-zero ∙ zero-mul z in
     record { good = zero-is-good; near = near-eq (none ∙ sym (zero-mul one·units)) }
 
-or-no : (b : Bool) → (b || false) ≡ b
-or-no true = refl
-or-no false = refl
-
-or-yes : (b : Bool) → (b || true) ≡ true
-or-yes true = refl
-or-yes false = refl
-
 -- The known stages: the kept ones, then one more at a time, from the highest down.
 module _ (n : ℕ) (t : ℕ → ℕ → Float) (d : ℕ → Float) (k : ℕ → Float) where
   known-by : (q i : ℕ) {b : Bool} → leb (n - q) i ≡ b → known n t d k q i ≡ (kept n t d k i || b)
   known-by q i e = known-is n t d k q i ∙ ap (λ b. kept n t d k i || b) e
 
   known-start : (i : ℕ) → i < n → known n t d k 0 i ≡ kept n t d k i
-  known-start i b = known-by 0 i (lt-leb (n - 0) i (omega arith)) ∙ or-no (kept n t d k i)
+  known-start i b = known-by 0 i (lt-leb (n - 0) i (omega arith)) ∙ or-false (kept n t d k i)
 
   known-from : (q i : ℕ) → n - q ≤ i → known n t d k q i ≡ true
-  known-from q i l = known-by q i (le-leb (n - q) i l) ∙ or-yes (kept n t d k i)
+  known-from q i l = known-by q i (le-leb (n - q) i l) ∙ or-true (kept n t d k i)
 
   known-below : (q i : ℕ) → i < n - q → known n t d k q i ≡ kept n t d k i
-  known-below q i l = known-by q i (lt-leb (n - q) i l) ∙ or-no (kept n t d k i)
+  known-below q i l = known-by q i (lt-leb (n - q) i l) ∙ or-false (kept n t d k i)
 
   known-next : (q i : ℕ) → q < n → i ≢ n - suc q → known n t d k (suc q) i ≡ known n t d k q i
   known-next q i b e =

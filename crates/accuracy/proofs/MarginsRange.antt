@@ -11,22 +11,14 @@ use borrow.Author.Tests.{ne-eqb}
 use Rattle.definitions.specs.Numbers.{_⊗_, _⊘_, 0·0, 1·0, addInRange, mulInRange, divInRange, sum, sumInRange, all}
 use Rattle.definitions.specs.LeavingRates.{System, downward, shared, column, inRange}
 use Rattle.definitions.specs.Margins.{rank, sumWithInRange, kBefore, h, a, kept, keptSystem, y, known, xAfter, ratioInRange, scaledInRange, backInRange, joinInRange, everyStep, marginsInRange}
-use Rattle.accuracy.proofs.Range.{all-at}
-
--- A test behind one that fails.
-or-second : (a b : Bool) → a ≡ false → T (a || b) → T b
-or-second false b e t = t
-or-second true b e t = absurd (subst T e tt)
-
-not-passed : (a : Bool) → a ≡ true → not a ≡ false
-not-passed true e = refl
-not-passed false e = ap not e
+use Rattle.exact.proofs.Bools.{if-out}
+use Rattle.steps.proofs.All.{each}
 
 -- A test asked of the stages below n that pass another.
 all-passing :
     (pass test : ℕ → Bool) (n : ℕ) → T (all (λ i. not (pass i) || test i) 0 n) → (i : ℕ) → i < n → pass i ≡ true → T (test i)
 all-passing pass test n t i b e =
-    or-second (not (pass i)) (test i) (not-passed (pass i) e) (all-at (λ i. not (pass i) || test i) 0 n t i (omega arith))
+    if-out (pass i) (test i) (each (λ i. not (pass i) || test i) 0 n i t (omega arith) (omega arith)) e
 
 module _ (n : ℕ) (t : ℕ → ℕ → Float) (d : ℕ → Float) (k : ℕ → Float) where
   -- h, a and k of stage i.
@@ -66,7 +58,7 @@ module _ (n : ℕ) (t : ℕ → ℕ → Float) (d : ℕ → Float) (k : ℕ → 
       let r₃ = and-l (products && earlier && later) addition r₄ in
       let r₂ = and-l (products && earlier) later r₃ in
       record {
-        product = λ j l. all-at (λ j. mulInRange (t i j) (k j)) 0 i (and-l products earlier r₂) j (omega arith);
+        product = λ j l. each (λ j. mulInRange (t i j) (k j)) 0 i j (and-l products earlier r₂) (omega arith) (omega arith);
         earlier = and-r products earlier r₂;
         later = and-r (products && earlier) later r₃;
         addition = and-r (products && earlier && later) addition r₄;
@@ -83,14 +75,12 @@ module _ (n : ℕ) (t : ℕ → ℕ → Float) (d : ℕ → Float) (k : ℕ → 
       let parts = all (λ j. quotient j && product j) (suc i) (n - suc i) in
       let exit = sumInRange 0·0 (λ j. t i j ⊗ (d j ⊘ a n t d k j)) (suc i) (n - suc i) in
       let r₂ = and-l (sizes && parts) exit r in
-      let part = all-at (λ j. quotient j && product j) (suc i) (n - suc i) (and-r sizes parts r₂) in
+      let part : (j : ℕ) → i < j → j < n → T (quotient j && product j) = λ j l m. each (λ j. quotient j && product j) (suc i) (n - suc i) j (and-r sizes parts r₂) l (omega arith) in
       record {
         size =
-            λ j l e f.
-            or-second (not (kept n t d k j) || eqb i j) (mulInRange (t i j) (k j))
-            (rw (not-passed (kept n t d k j) e) (ne-eqb i j f)) (all-at size 0 n (and-l sizes parts r₂) j (omega arith));
-        division = λ j l m. and-l (quotient j) (product j) (part j (omega arith));
-        product = λ j l m. and-r (quotient j) (product j) (part j (omega arith));
+            λ j l e f. rw (e, ne-eqb i j f) at (each size 0 n j (and-l sizes parts r₂) (omega arith) (omega arith));
+        division = λ j l m. and-l (quotient j) (product j) (part j l m);
+        product = λ j l m. and-r (quotient j) (product j) (part j l m);
         exit = and-r (sizes && parts) exit r;
       }
 
@@ -153,15 +143,14 @@ module _ (n : ℕ) (t : ℕ → ℕ → Float) (d : ℕ → Float) (k : ℕ → 
       let r₂ = and-l (ratios && scaled) engine r₃ in
       let scaled-at = all-passing test (scaledInRange n t d k) n (and-r ratios scaled r₂) in
       let back-at = all-passing test entries n (and-r (ratios && scaled && engine) back r₄) in
-      let join-at = all-at (λ q. test (n - suc q) || joins q) 0 n (and-r (ratios && scaled && engine && back) join r) in
       record {
-        ratio = λ i l. ratio-range i (all-at (ratioInRange n t d k) 0 n (and-l ratios scaled r₂) i (omega arith));
+        ratio = λ i l. ratio-range i (each (ratioInRange n t d k) 0 n i (and-l ratios scaled r₂) (omega arith) (omega arith));
         scaled = λ i l e. scaled-range i (scaled-at i l e);
         engine = and-r (ratios && scaled) engine r₃;
         back = λ i j l m e f. all-passing test (entry i) n (back-at i l e) j m f;
         join =
             λ q l e.
-            join-range q (xAfter n t d k q) (or-second (test (n - suc q)) (joins q) e (join-at q (omega arith)));
+            join-range q (xAfter n t d k q) (rw e at (each (λ q. test (n - suc q) || joins q) 0 n q (and-r (ratios && scaled && engine && back) join r) (omega arith) (omega arith)));
       }
 
 pub margins-range : (n : ℕ) (t : ℕ → ℕ → Float) (d : ℕ → Float) → T (marginsInRange n t d) → EveryStep n t d (kBefore n t d n)
@@ -176,4 +165,4 @@ module _ (r : ℕ) (at : ℕ → System) (e : T (inRange r at)) where
 
   pub engine-column : (j : ℕ) → j < r → T (column r at j)
   unfolding inRange
-  engine-column j l = all-at (column r at) 0 r (and-r (shared r at) (all (column r at) 0 r) e) j (omega arith)
+  engine-column j l = each (column r at) 0 r j (and-r (shared r at) (all (column r at) 0 r) e) (omega arith) (omega arith)

@@ -14,7 +14,7 @@ use Rattle.rounding.specs.Good.{Good}
 use Rattle.rounding.proofs.Laws.{sum-good, sum-rounds, product-good, product-rounds, quotient-good, quotient-rounds}
 use Rattle.rounding.proofs.Sums.{range-before, range-last, sum-is-good}
 use Rattle.rounding.proofs.Range.{one-pos}
-use Rattle.accuracy.proofs.Range.{product-in-range, addition-in-range}
+use Rattle.steps.proofs.AddProduct.{product-of-step, addition-of-step}
 
 -- x + (t / p)·y: the product has two roundings, the sum one more, so the whole has three more than the pivot p has against
 -- the exact pivot P.
@@ -30,12 +30,12 @@ pub adds-product :
 adds-product x t p y gx gt gp gy d a =
     let m = t ⊘ p in
     let gm = quotient-good gt gp d in
-    let gv = product-good gm gy (product-in-range x m y a) in
+    let gv = product-good gm gy (product-of-step x m y a) in
     let division = quotient-rounds t p gt gp d .near in
-    let multiplication = product-rounds m y gm gy (product-in-range x m y a) .near in
-    let addition = sum-rounds x (m ⊗ y) gx gv (addition-in-range x m y a) .near in
+    let multiplication = product-rounds m y gm gy (product-of-step x m y a) .near in
+    let addition = sum-rounds x (m ⊗ y) gx gv (addition-of-step x m y a) .near in
     record {
-      good = sum-good gx gv (addition-in-range x m y a);
+      good = sum-good gx gv (addition-of-step x m y a);
       product = near-term (units p) (units m) (units (m ⊗ y)) (units t) (units y) one-pos division multiplication;
       addition = addition;
       whole = λ h. near-step (units m) (units (m ⊗ y)) (units t) (units x) (units y) one-pos h division multiplication addition;

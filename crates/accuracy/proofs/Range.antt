@@ -12,30 +12,8 @@ use Rattle.exact.specs.Chains.{In}
 use Rattle.exact.proofs.Sums.{none-in}
 use Rattle.definitions.specs.Numbers.{_⊗_, mulInRange, addInRange, divInRange, addProductInRange, sumInRange, all}
 use Rattle.definitions.specs.LeavingRates.{System, p, u, m↓, m↑, b↓, b↑, solved, rowInRange, stageInRange, sharedBefore, shared, columnBefore, columnUpward, column, inRange}
-
--- A test that holds of all numbers of a range, at one of them.
-pub all-at : (test : ℕ → Bool) (k m : ℕ) → T (all test k m) → (i : ℕ) → In k m i → T (test i)
-unfolding all
-all-at test k zero t i l = absurd (none-in l)
-all-at test k (suc m) t i l =
-    elim (ℕ-discrete (k + m) i) [
-      | yes e ↦ subst (λ x. T (test x)) e (and-r (all test k m) (test (k + m)) t)
-      | no d ↦ all-at test k m (and-l (all test k m) (test (k + m)) t) i (omega arith)
-    ]
-
-or-not : (a b : Bool) → (T a → ⊥) → T (a || b) → T b
-or-not true b n t = absurd (n tt)
-or-not false b n t = t
-
--- The two tests of x + m·y.
-module _ (x m y : Float) (t : T (addProductInRange x m y)) where
-  pub product-in-range : T (mulInRange m y)
-  unfolding addProductInRange
-  product-in-range = and-l (mulInRange m y) (addInRange x (m ⊗ y)) t
-
-  pub addition-in-range : T (addInRange x (m ⊗ y))
-  unfolding addProductInRange
-  addition-in-range = and-r (mulInRange m y) (addInRange x (m ⊗ y)) t
+use Rattle.exact.proofs.Bools.{or-not}
+use Rattle.steps.proofs.All.{each}
 
 -- The tests of stage k, with m stages after it: those of row i, and those of the pivot and of all rows.
 pub record RowRange (r : ℕ) (at : ℕ → System) (k m i : ℕ) : Type 0 where
@@ -63,7 +41,7 @@ module _ (r : ℕ) (at : ℕ → System) where
             λ j l n.
             or-not (eqb i j) (place j)
             (λ same. n (eqb→eq i j same))
-            (all-at size (suc k) m (subst (λ x. T (all size (suc k) x)) e (and-r (division && exit) sizes t)) j l);
+            (each size (suc k) m j (subst (λ x. T (all size (suc k) x)) e (and-r (division && exit) sizes t)) (l .low) (l .high));
       }
 
   pub stage-range : (q k m : ℕ) → suc (k + m) ≡ r → k < q → T (sharedBefore r at q) → StageRange r at k m
@@ -72,13 +50,13 @@ module _ (r : ℕ) (at : ℕ → System) where
       let c : r - suc k ≡ m = omega arith in
       let pivot = sumInRange (at k .s k) (at k .t k) (suc k) (r - suc k) in
       let rows = all (rowInRange r at k) (suc k) (r - suc k) in
-      let here : T (pivot && rows) = all-at (stageInRange r at) 0 q t k (omega arith) in
+      let here : T (pivot && rows) = each (stageInRange r at) 0 q k t (omega arith) (omega arith) in
       record {
         pivot = subst (λ x. T (sumInRange (at k .s k) (at k .t k) (suc k) x)) c (and-l pivot rows here);
         row =
             λ i li.
             row-range k m i c
-            (all-at (rowInRange r at k) (suc k) m (subst (λ x. T (all (rowInRange r at k) (suc k) x)) c (and-r pivot rows here)) i li);
+            (each (rowInRange r at k) (suc k) m i (subst (λ x. T (all (rowInRange r at k) (suc k) x)) c (and-r pivot rows here)) (li .low) (li .high));
       }
 
   -- The stages before r, and the upward multipliers.
@@ -92,8 +70,8 @@ module _ (r : ℕ) (at : ℕ → System) where
   pub upward-division : T (shared r at) → (i k : ℕ) → i < k → k < r → T (divInRange (at i .t i k) (p r at k))
   unfolding shared u upwardMultipliers
   upward-division t i k l h =
-      let column = all-at (λ k. all (λ i. divInRange (u r at i k) (p r at k)) 0 k) 0 r (and-r (sharedBefore r at r) upwardMultipliers t) k (omega arith) in
-      all-at (λ i. divInRange (u r at i k) (p r at k)) 0 k column i (omega arith)
+      let column = each (λ k. all (λ i. divInRange (u r at i k) (p r at k)) 0 k) 0 r k (and-r (sharedBefore r at r) upwardMultipliers t) (omega arith) (omega arith) in
+      each (λ i. divInRange (u r at i k) (p r at k)) 0 k i column (omega arith) (omega arith)
 
   -- Column j: the downward stages, the upward stages, the last division.
   module _ (j : ℕ) where
@@ -115,8 +93,7 @@ module _ (r : ℕ) (at : ℕ → System) where
     pub last-division : T (column r at j) → (i : ℕ) → i < r → T (divInRange (solved r at j i) (p r at i))
     unfolding column lastDivisions
     last-division t i h =
-        all-at (λ i. divInRange (solved r at j i) (p r at i)) 0 r
-        (and-r (columnBefore r at j r && columnUpward r at j r) lastDivisions t) i (omega arith)
+        each (λ i. divInRange (solved r at j i) (p r at i)) 0 r i (and-r (columnBefore r at j r && columnUpward r at j r) lastDivisions t) (omega arith) (omega arith)
 
     pub column-down :
         (q k i : ℕ) → T (columnBefore r at j q) → j ≤ k → k < q → k < i → i < r
@@ -124,7 +101,7 @@ module _ (r : ℕ) (at : ℕ → System) where
     unfolding columnBefore
     column-down q k i t h l n m =
         let row : ℕ → ℕ → Bool = λ k i. addProductInRange (b↓ r at j k i) (m↓ r at k i) (b↓ r at j k k) in
-        all-at (row k) (suc k) (r - suc k) (all-at (λ k. all (row k) (suc k) (r - suc k)) j (q - j) t k (omega arith)) i (omega arith)
+        each (row k) (suc k) (r - suc k) i (each (λ k. all (row k) (suc k) (r - suc k)) j (q - j) k t (omega arith) (omega arith)) (omega arith) (omega arith)
 
     pub column-up :
         (q l i : ℕ) → T (columnUpward r at j q) → l < q → i < r - suc l
@@ -132,7 +109,7 @@ module _ (r : ℕ) (at : ℕ → System) where
     unfolding columnUpward
     column-up q l i t h n =
         let row : ℕ → ℕ → Bool = λ l i. addProductInRange (b↑ r at j l i) (m↑ r at (r - suc l) i) (b↑ r at j l (r - suc l)) in
-        all-at (row l) 0 (r - suc l) (all-at (λ l. all (row l) 0 (r - suc l)) 0 q t l (omega arith)) i (omega arith)
+        each (row l) 0 (r - suc l) i (each (λ l. all (row l) 0 (r - suc l)) 0 q l t (omega arith) (omega arith)) (omega arith) (omega arith)
 
   -- All of it, for the whole table.
   pub table-shared : T (inRange r at) → T (shared r at)
@@ -141,4 +118,4 @@ module _ (r : ℕ) (at : ℕ → System) where
 
   pub table-column : T (inRange r at) → (j : ℕ) → j < r → T (column r at j)
   unfolding inRange
-  table-column t j h = all-at (column r at) 0 r (and-r (shared r at) (all (column r at) 0 r) t) j (omega arith)
+  table-column t j h = each (column r at) 0 r j (and-r (shared r at) (all (column r at) 0 r) t) (omega arith) (omega arith)

@@ -13,7 +13,7 @@ use Rattle.rounding.proofs.Value.{by-parts}
 use Rattle.rounding.proofs.Laws.{zero-is-good, units-zero, one-is-good, units-one, is-zero}
 use Rattle.rounding.proofs.Order.{lt-units}
 use Rattle.elimination.specs.Told.{Bound, Covers, Covering, Lowered, Least}
-use Rattle.elimination.proofs.Cases.{by-equal, by-order}
+use Rattle.exact.proofs.Cases.{by-equal, by-order}
 
 pub bound-one : Bound 1·0
 bound-one = record { good = one-is-good; small = le-of-eq units-one }

@@ -12,8 +12,8 @@ use Rattle.elimination.specs.Operators.{replace, between, put}
 use Rattle.elimination.specs.Vectors.{vector, IsVector}
 use Rattle.elimination.specs.Steps.{plusMultiple, eliminatedRow, eliminatedRows}
 use Rattle.elimination.specs.ByFours.{Part, multiplierRow, leavingRate, summedRow, diagonalRow}
-use Rattle.elimination.proofs.Cases.{by-equal, by-order}
-use Rattle.elimination.proofs.RowSteps.{step-same}
+use Rattle.exact.proofs.Cases.{by-equal, by-order}
+use Rattle.steps.proofs.AddProduct.{step-same}
 use Rattle.elimination.proofs.Operators.{replace-same, replace-other, between-in, between-low, between-past, between-out, between-none, between-same, between-step, between-over, between-before}
 use Rattle.elimination.proofs.Loops.{Down, down-due, down-else, down-puts, down-joins}
 

@@ -9,7 +9,7 @@ use Rattle.definitions.specs.Numbers.{0·0, 1·0}
 use Rattle.elimination.specs.Places.{table32, Holds}
 use Rattle.elimination.specs.Operators.{replace, between, put, span}
 use Rattle.elimination.specs.Steps.{identityRow}
-use Rattle.elimination.proofs.Cases.{by-equal, by-order}
+use Rattle.exact.proofs.Cases.{by-equal, by-order}
 use Rattle.elimination.proofs.Operators.{replace-same, replace-other, between-in, between-past, put-replaced}
 
 one-of-identity : (i : ℕ) → identityRow i i ≡ 1·0

@@ -11,9 +11,9 @@ use Rattle.definitions.specs.LeavingRates.{System, b↓, b↑, solved, quotient
 use Rattle.elimination.specs.Operators.{between}
 use Rattle.elimination.specs.Steps.{plusMultiple, over, identityRow, identityRows, rowsAdded, downDone, upDone, dividedRows}
 use Rattle.elimination.specs.Contracts.{Multipliers}
-use Rattle.elimination.proofs.Cases.{by-order}
+use Rattle.exact.proofs.Cases.{by-order}
 use Rattle.elimination.proofs.Operators.{between-in, between-past, between-out}
-use Rattle.elimination.proofs.RowSteps.{step-same}
+use Rattle.steps.proofs.AddProduct.{step-same}
 use borrow.Author.Tests.{le-leb, lt-leb}
 use Rattle.steps.proofs.LeavingRates.{column-start, column-before, column-step, upward-start, upward-step}
 

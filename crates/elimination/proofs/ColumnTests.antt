@@ -10,9 +10,8 @@ use Rattle.definitions.specs.Numbers.{0·0, 1·0, divInRange, addProductInRange
 use Rattle.definitions.specs.LeavingRates.{System, p, m↓, m↑, b↓, b↑, solved, columnBefore, columnUpward, column}
 use Rattle.elimination.specs.Steps.{plusMultipleInRange, overInRange, rowsAddedInRange, downDone, downInRange, upDone, upInRange, quotientsInRange}
 use Rattle.elimination.specs.Contracts.{Multipliers}
-use Rattle.elimination.proofs.Flags.{all-same}
-use Rattle.elimination.proofs.Exchange.{exchange, triangle, all-both}
-use Rattle.elimination.proofs.RowSteps.{step-test-same}
+use Rattle.steps.proofs.All.{all-same, exchange, triangle, all-both}
+use Rattle.steps.proofs.AddProduct.{step-test-same}
 use Rattle.elimination.proofs.ColumnSteps.{down-row, up-row}
 
 module _ (r : ℕ) (at : ℕ → System) where

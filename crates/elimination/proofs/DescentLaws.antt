@@ -16,13 +16,12 @@ use Rattle.elimination.specs.Places.{table32, Holds}
 use Rattle.elimination.specs.Operators.{replace, between, span}
 use Rattle.elimination.specs.Steps.{plusMultiple, plusMultipleInRange, IsIdentity, Skips, rowsAddedInRange, downDone, downInRange, staged, stagedInRange, descended, descendInRange}
 use Rattle.elimination.specs.Told.{Told, FiniteRow, FiniteBelow, FiniteTable, Bound, Covering, Least, QuickRow, productsAt}
-use Rattle.elimination.proofs.Cases.{by-equal, by-order}
-use Rattle.elimination.proofs.Flags.{each, every, all-same}
-use Rattle.elimination.proofs.Exchange.{below}
+use Rattle.exact.proofs.Cases.{by-equal, by-order}
+use Rattle.steps.proofs.All.{each, every, all-same, below}
 use Rattle.elimination.proofs.Told.{ToldEach, told-begins, told-turns, told-from, told-exactly}
 use Rattle.elimination.proofs.Bounds.{covering-less}
 use Rattle.elimination.proofs.Quick.{zero-other}
-use Rattle.elimination.proofs.RowSteps.{step-same, step-test-same}
+use Rattle.steps.proofs.AddProduct.{step-same, step-test-same}
 use Rattle.elimination.proofs.RowStages.{Staged, part-same, parts-join, staged-by-products, staged-by-bound}
 use Rattle.elimination.proofs.Operators.{replace-own, between-in, between-past, between-same, between-own, between-step, span-row}
 use Rattle.elimination.proofs.ColumnSteps.{added, right-of-added, down-keeps, down-right, down-outside}

@@ -13,7 +13,8 @@ use Rattle.elimination.specs.Operators.{replace, between, put, span}
 use Rattle.elimination.specs.Vectors.{vector, IsVector}
 use Rattle.elimination.specs.Steps.{plusMultiple, diagonal, overPivot, overPivotInRange, rowMultipliersInRange, IsStage, rowTest, eliminatedRow, eliminatedRows, stageDone}
 use Rattle.elimination.specs.Told.{Finds, StageFinite, StageFinds, pivotTested, stageTested}
-use Rattle.elimination.proofs.Flags.{both-left, all-same}
+use lib.Ieee.Fits.{and-l}
+use Rattle.steps.proofs.All.{all-same}
 use Rattle.elimination.proofs.Told.{told-from, told-both, told-exactly}
 use Rattle.elimination.proofs.Operators.{between-in, between-same, put-replaced}
 
@@ -45,7 +46,7 @@ unfolding stageDone stageTested
 stage-eliminated r k f {s} {p} {pivots} {rows} e t h₁ h₂ =
     record {
       told = rw (e .pivots) at (told-from (told-both (told-exactly t) (h₁ .told)) (λ g. (g, g)));
-      tested = λ u. rw (← e .pivots, ← t) (both-left pivots rows u);
+      tested = λ u. rw (← e .pivots, ← t) (and-l pivots rows u);
       holds = record { long = h₂ .long; is = h₂ .is ∙ rw (h₁ .holds .is, e .sum, e .pivots) };
     }
 

@@ -14,8 +14,10 @@ use Rattle.elimination.specs.Steps.{stagesDone, stagesInRange, upwardRow
 use Rattle.elimination.specs.Contracts.{Multipliers, Keeps, Shared, Solved}
 use Rattle.elimination.specs.Told.{Told, Finds, FiniteBelow, FiniteTable}
 use Rattle.elimination.proofs.Places.{table-at}
-use Rattle.elimination.proofs.Flags.{same-truth, both, both-left, both-right, each}
-use Rattle.elimination.proofs.Same.{Same, downward-same, p-same, m↓-same, m↑-same, shared-same}
+use Rattle.exact.proofs.Bools.{same-truth}
+use lib.Ieee.Fits.{and-i, and-l, and-r}
+use Rattle.steps.proofs.All.{each}
+use Rattle.steps.proofs.Same.{Same, downward-same, p-same, m↓-same, m↑-same, shared-same}
 use Rattle.elimination.proofs.SharedLaws.{shared-test, row-by-row, multipliers, outside-kept}
 use Rattle.elimination.proofs.ColumnSteps.{identity-inside, identity-outside, down-end, down-outside, up-end, up-outside, last-end, last-outside}
 use Rattle.elimination.proofs.FiniteColumns.{up-start-finite, dividends-finite}
@@ -27,25 +29,25 @@ told-backwards {down} {up} {last} {d} {u} {q} h k e f g =
     rw e
     (same-truth (down && up && q) (d && u && q)
     (λ t.
-    let l = both-left (down && up) q t in
-    let z = both-right (down && up) q t in
-    both (d && u) q (both d u (h .tells (f (g z)) (both-left down up l)) (k .tells (g z) (both-right down up l))) z)
+    let l = and-l (down && up) q t in
+    let z = and-r (down && up) q t in
+    and-i (d && u) q (and-i d u (h .tells (f (g z)) (and-l down up l)) (k .tells (g z) (and-r down up l))) z)
     (λ t.
-    let l = both-left (d && u) q t in
-    both (down && up) q (both down up (h .passes (both-left d u l)) (k .passes (both-right d u l))) (both-right (d && u) q t)))
+    let l = and-l (d && u) q t in
+    and-i (down && up) q (and-i down up (h .passes (and-l d u l)) (k .passes (and-r d u l))) (and-r (d && u) q t)))
 
 -- The multipliers are quotients whose steps are in range.
 shared-finite : (r : ℕ) (at : ℕ → System) → T (shared r at) → (k i : ℕ) → k < i → i < r → T (finite (m↓ r at k i))
 unfolding shared sharedBefore stageInRange rowInRange divInRange
 shared-finite r at t k i l m =
     let x = at k .t i k in
-    let stage : T (stageInRange r at k) = each (stageInRange r at) 0 r k (both-left (sharedBefore r at r) (all (λ k. all (λ i. divInRange (u r at i k) (p r at k)) 0 k) 0 r) t) (omega arith) (omega arith) in
-    let row : T (rowInRange r at k i) = each (rowInRange r at k) (suc k) (r - suc k) i (both-right (sumInRange (at k .s k) (at k .t k) (suc k) (r - suc k)) (all (rowInRange r at k) (suc k) (r - suc k)) stage) l (omega arith) in
+    let stage : T (stageInRange r at k) = each (stageInRange r at) 0 r k (and-l (sharedBefore r at r) (all (λ k. all (λ i. divInRange (u r at i k) (p r at k)) 0 k) 0 r) t) (omega arith) (omega arith) in
+    let row : T (rowInRange r at k i) = each (rowInRange r at k) (suc k) (r - suc k) i (and-r (sumInRange (at k .s k) (at k .t k) (suc k) (r - suc k)) (all (rowInRange r at k) (suc k) (r - suc k)) stage) l (omega arith) in
     let exit = addProductInRange (at k .s i) (m↓ r at k i) (at k .s k) in
     let sizes = all (λ j. eqb i j || addProductInRange (at k .t i j) (m↓ r at k i) (at k .t k j)) (suc k) (r - suc k) in
     rw (multiplier-is r at k i)
-    (both-left (finite (x ⊘ p r at k)) (isZero x || isZero (p r at k) || lt smallest (x ⊘ p r at k))
-    (both-left (divInRange x (p r at k)) exit (both-left (divInRange x (p r at k) && exit) sizes row)))
+    (and-l (finite (x ⊘ p r at k)) (isZero x || isZero (p r at k) || lt smallest (x ⊘ p r at k))
+    (and-l (divInRange x (p r at k)) exit (and-l (divInRange x (p r at k) && exit) sizes row)))
 
 pub identity-holds : (r : ℕ) (f : ℕ → ℕ → Float) {xs : List Float} → Holds xs (identityRows r r f) → IsIdentity r (table32 xs)
 identity-holds r f h i j l m = rw (h .is) (identity-inside r f i j l m)

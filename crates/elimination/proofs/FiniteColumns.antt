@@ -10,8 +10,9 @@ use Rattle.definitions.specs.Numbers.{_⊗_, _⊘_, smallest, finite, isZero, d
 use Rattle.rounding.proofs.Finite.{sum-finite, quotient-finite}
 use Rattle.elimination.specs.Steps.{plusMultiple, overInRange, rowsAdded, downDone, upDone, quotientsInRange}
 use Rattle.elimination.specs.Told.{FiniteRow, FiniteTable}
-use Rattle.elimination.proofs.Cases.{by-order}
-use Rattle.elimination.proofs.Flags.{both-left, each}
+use Rattle.exact.proofs.Cases.{by-order}
+use lib.Ieee.Fits.{and-l}
+use Rattle.steps.proofs.All.{each}
 use Rattle.elimination.proofs.ColumnSteps.{added, not-added, right-of-added}
 
 module _ (r : ℕ) (g : ℕ → ℕ → Float) where
@@ -58,5 +59,5 @@ module _ (r : ℕ) (g : ℕ → ℕ → Float) where
     unfolding quotientsInRange overInRange divInRange
     dividends-finite t i l j m =
         quotient-finite (f i j) (g i i)
-        (both-left (finite (f i j ⊘ g i i)) (isZero (f i j) || isZero (g i i) || lt smallest (f i j ⊘ g i i))
+        (and-l (finite (f i j ⊘ g i i)) (isZero (f i j) || isZero (g i i) || lt smallest (f i j ⊘ g i i))
         (each (overInRange (g i i) (f i)) 0 r j (each (λ i. all (overInRange (g i i) (f i)) 0 r) 0 r i t (omega arith) (omega arith)) (omega arith) (omega arith)))

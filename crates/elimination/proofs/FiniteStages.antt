@@ -17,8 +17,10 @@ use Rattle.rounding.proofs.Sums.{total-in-range, range-last}
 use Rattle.elimination.specs.Places.{table32, systemIn, atStage, Holds, Gives}
 use Rattle.elimination.specs.Steps.{rowTest, stageDone, stagesDone, stagesInRange}
 use Rattle.elimination.specs.Told.{Told, RowFinite, StageFinite, StageFinds, StagesFind, pivotTested, stageTested}
-use Rattle.elimination.proofs.Cases.{by-equal, by-order}
-use Rattle.elimination.proofs.Flags.{same-truth, both, both-left, both-right, each, every}
+use Rattle.exact.proofs.Cases.{by-equal, by-order}
+use Rattle.exact.proofs.Bools.{same-truth}
+use lib.Ieee.Fits.{and-i, and-l, and-r}
+use Rattle.steps.proofs.All.{each, every}
 use Rattle.elimination.proofs.Told.{ToldEach, told-same, told-begins, told-turns, told-ends}
 use Rattle.elimination.proofs.RangeLaws.{multiplier-is-finite, exit-is-finite}
 use Rattle.elimination.proofs.SharedLaws.{row-done, exit-place, size-place}
@@ -101,25 +103,25 @@ module _ (r k : ℕ) (f : ℕ → ℕ → Float) where
 
   pivot-of-tested : T (stageTested r k f) → T (pivotTested r (pivot r (systemIn f) k))
   unfolding stageTested rowTests
-  pivot-of-tested t = both-left (pivotTested r (pivot r (systemIn f) k)) rowTests t
+  pivot-of-tested t = and-l (pivotTested r (pivot r (systemIn f) k)) rowTests t
 
   in-range-of-tested : k < r → T (stageTested r k f) → T (stageInRange r (atStage f) k)
   unfolding stageTested stageInRange rowInRange p m↓ multiplier rowTest rowTests additions
   in-range-of-tested l t =
       let q = pivotTested r (pivot r (systemIn f) k) in
-      both additions rowTests (additions-of-pivot l (both-left q rowTests t)) (both-right q rowTests t)
+      and-i additions rowTests (additions-of-pivot l (and-l q rowTests t)) (and-r q rowTests t)
 
   rows-of-in-range : T (stageInRange r (atStage f) k) → T rowTests
   unfolding stageInRange rowInRange p m↓ multiplier rowTest rowTests additions
-  rows-of-in-range t = both-right additions rowTests t
+  rows-of-in-range t = and-r additions rowTests t
 
   additions-of-in-range : T (stageInRange r (atStage f) k) → T additions
   unfolding stageInRange additions
-  additions-of-in-range t = both-left additions (all (rowInRange r (atStage f) k) (suc k) (r - suc k)) t
+  additions-of-in-range t = and-l additions (all (rowInRange r (atStage f) k) (suc k) (r - suc k)) t
 
   tested-of-in-range : T (pivotTested r (pivot r (systemIn f) k)) → T (stageInRange r (atStage f) k) → T (stageTested r k f)
   unfolding stageTested rowTests
-  tested-of-in-range u t = both (pivotTested r (pivot r (systemIn f) k)) rowTests u (rows-of-in-range t)
+  tested-of-in-range u t = and-i (pivotTested r (pivot r (systemIn f) k)) rowTests u (rows-of-in-range t)
 
 -- All stages of a table f.
 module _ (r : ℕ) (f : ℕ → ℕ → Float) where
@@ -212,7 +214,7 @@ module _ {r : ℕ} {f : ℕ → ℕ → Float} {k : ℕ} {ok : Bool} {xs : List 
       record {
         holds = rw (add-one k) (s .holds);
         told = told-turns (h .told) (s .told);
-        tested = λ t l m. by-equal l k (λ e. rw e (s .tested (both-right ok now t))) (λ n. h .tested (both-left ok now t) l (omega arith));
+        tested = λ t l m. by-equal l k (λ e. rw e (s .tested (and-r ok now t))) (λ n. h .tested (and-l ok now t) l (omega arith));
       }
 
   pub stages-found : {hi : ℕ} → k ≤ hi → hi ≤ k → StagesFind r hi f ok xs

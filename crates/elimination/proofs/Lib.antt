@@ -1,15 +1,11 @@
 -- Laws that other crates cite: what a zero multiplier does, that a column looks at no other, systems that agree;
 pub mod ZeroMultiplier
 pub mod OneColumn
-pub mod Same
 -- tables as functions, and the invariants of loops over them.
-pub mod Cases
 pub mod Places
 pub mod Operators
 pub mod Vectors
 pub mod Loops
-pub mod Flags
-pub mod Exchange
 -- What the proofs of this crate's functions rest on.
 pub mod RowSteps
 mod Told

@@ -11,8 +11,9 @@ use Rattle.definitions.specs.Numbers.{_⊗_, smallest, finite, isZero, mulInRan
 use Rattle.rounding.proofs.Finite.{sum-finite}
 use Rattle.elimination.specs.Steps.{plusMultiple, plusMultipleInRange, timesInRange}
 use Rattle.elimination.specs.Told.{Told, FiniteRow, Bound, Covers, Covering, Quick, QuickRow, quickAt, productsAt}
-use Rattle.elimination.proofs.Flags.{each, every}
-use Rattle.elimination.proofs.Quick.{quick-product, zero-product, product-of-step, step-of-product}
+use Rattle.steps.proofs.All.{each, every}
+use Rattle.elimination.proofs.Quick.{quick-product, zero-product}
+use Rattle.steps.proofs.AddProduct.{product-of-step, step-of-product}
 
 -- A product that passes the quick test, one way or the other.
 quick-times : (m lo y : Float) → T (fits binary64 m) → Bound lo → Covers lo y → T (isZero m || lt smallest (m ⊗ lo)) → T (finite (m ⊗ y)) → T (mulInRange m y)

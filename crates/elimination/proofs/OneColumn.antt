@@ -5,7 +5,7 @@ use native.Mathlib.Omega.{arith}
 use lib.Ieee.{Float}
 use Rattle.definitions.specs.Numbers.{_⊕_, _⊗_, _⊘_}
 use Rattle.elimination.specs.Steps.{over, rowsAdded, downDone, upDone, dividedRows}
-use Rattle.elimination.proofs.Cases.{by-order}
+use Rattle.exact.proofs.Cases.{by-order}
 use Rattle.elimination.proofs.ColumnSteps.{rows-inside, added, not-added, right-of-added}
 
 module _ (g : ℕ → ℕ → Float) (j : ℕ) where

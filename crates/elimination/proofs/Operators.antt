@@ -7,7 +7,8 @@ use mathlib.Core.Bool.{Bool, cond}
 use lib.Ieee.{Float}
 use borrow.Author.Tests.{lt-ltb, le-ltb, le-leb, lt-leb, eq-eqb, ne-eqb}
 use Rattle.elimination.specs.Operators.{replace, between, put, span}
-use Rattle.elimination.proofs.Cases.{by-equal, by-order, and-false}
+use Rattle.exact.proofs.Cases.{by-equal, by-order}
+use Rattle.exact.proofs.Bools.{and-false}
 
 module _ {A : Type 0} where
   pub replace-same : (i : ℕ) (x : A) (f : ℕ → A) → replace i x f i ≡ x

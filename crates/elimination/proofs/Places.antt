@@ -11,7 +11,8 @@ use borrow.Author.Tests.{lt-ltb, le-ltb}
 use Rattle.definitions.specs.Numbers.{0·0}
 use Rattle.elimination.specs.Places.{placeOf, tableOf, Holds}
 use Rattle.elimination.specs.Operators.{replace, put}
-use Rattle.elimination.proofs.Cases.{by-equal, by-order, and-false}
+use Rattle.exact.proofs.Cases.{by-equal, by-order}
+use Rattle.exact.proofs.Bools.{and-false}
 use Rattle.elimination.proofs.Operators.{replace-same, replace-other}
 
 -- Inside a list the value beyond its end does not matter.

@@ -24,38 +24,17 @@ use Rattle.rounding.proofs.Finite.{product-finite}
 use Rattle.rounding.proofs.Zeros.{times-zero}
 use Rattle.rounding.proofs.Range.{product-in-range, factor-above}
 use Rattle.elimination.specs.Told.{Bound, Covers}
-use Rattle.elimination.proofs.Flags.{both, both-left, both-right}
-
--- ---- the two steps of x + m·y
-module _ (x m y : Float) where
-  pub product-of-step : T (addProductInRange x m y) → T (mulInRange m y)
-  unfolding addProductInRange
-  product-of-step t = both-left (mulInRange m y) (addInRange x (m ⊗ y)) t
-
-  pub step-finite : T (addProductInRange x m y) → T (finite (x ⊕ m ⊗ y))
-  unfolding addProductInRange addInRange
-  step-finite t = both-right (mulInRange m y) (finite (x ⊕ m ⊗ y)) t
-
-  pub step-of-product : T (mulInRange m y) → T (finite (x ⊕ m ⊗ y)) → T (addProductInRange x m y)
-  unfolding addProductInRange addInRange
-  step-of-product t u = both (mulInRange m y) (finite (x ⊕ m ⊗ y)) t u
+use lib.Ieee.Fits.{and-i, and-l, and-r}
+use Rattle.exact.proofs.Bools.{or-l, or-r}
 
 -- ---- a factor that is zero
-or-left : (a b : Bool) → T a → T (a || b)
-or-left true b t = tt
-or-left false b t = absurd t
-
-or-right : (a b : Bool) → T b → T (a || b)
-or-right true b t = tt
-or-right false b t = t
-
 module _ (m y : Float) where
   zero-in-range : T (isZero m || isZero y) → T (finite (m ⊗ y)) → T (mulInRange m y)
   unfolding mulInRange
-  zero-in-range z t = both (finite (m ⊗ y)) (isZero m || isZero y || lt smallest (m ⊗ y)) t (or-left (isZero m || isZero y) (lt smallest (m ⊗ y)) z)
+  zero-in-range z t = and-i (finite (m ⊗ y)) (isZero m || isZero y || lt smallest (m ⊗ y)) t (or-l (isZero m || isZero y) (lt smallest (m ⊗ y)) z)
 
   pub zero-product : T (isZero m) → T (finite (m ⊗ y)) → T (mulInRange m y)
-  zero-product z t = zero-in-range (or-left (isZero m) (isZero y) z) t
+  zero-product z t = zero-in-range (or-l (isZero m) (isZero y) z) t
 
 -- ---- a negative number is not above 2^-1022
 odd-below : (d q k l : ℕ) → T (lt smallest (odd d true q k l)) → ⊥
@@ -101,7 +80,7 @@ pub quick-product : (m lo y : Float) → T (fits binary64 m) → Bound lo → Co
 quick-product m lo y f b c a t =
     let g : Good m = multiplier-good m lo f (product-finite m y t .0) (b .good) a in
     elim (c (bound-positive g (b .good) a) (product-finite m y t .1)) [
-      | inl z ↦ zero-in-range m y (or-right (isZero m) (isZero y) z) t
+      | inl z ↦ zero-in-range m y (or-r (isZero m) (isZero y) z) t
       | inr h ↦ product-in-range g g (b .good) (h .0) (le-refl (units m)) (h .1) a t
     ]
 
@@ -110,7 +89,7 @@ module _ (s : Bool) (n : ℕ) (e : ℤ) where
   zero-amount : T (isZero (fin s n e)) → n * up e ≡ 0
   unfolding isZero eq
   zero-amount t =
-      let h = eqb→eq (n * up e * 1) (0 * 1 * down e) (both-left (eqb (n * up e * 1) (0 * 1 * down e)) (Bool·beq s false || eqb (n * up e * 1) 0) t) in
+      let h = eqb→eq (n * up e * 1) (0 * 1 * down e) (and-l (eqb (n * up e * 1) (0 * 1 * down e)) (Bool·beq s false || eqb (n * up e * 1) 0) t) in
       omega arith
 
   amount-zero : n * up e ≡ 0 → T (isZero (fin s n e))
@@ -118,7 +97,7 @@ module _ (s : Bool) (n : ℕ) (e : ℤ) where
   amount-zero z =
       let p : n * up e * 1 ≡ 0 * 1 * down e = omega arith in
       let q : n * up e * 1 ≡ 0 = omega arith in
-      both (eqb (n * up e * 1) (0 * 1 * down e)) (Bool·beq s false || eqb (n * up e * 1) 0) (eq→eqb p) (or-right (Bool·beq s false) (eqb (n * up e * 1) 0) (eq→eqb q))
+      and-i (eqb (n * up e * 1) (0 * 1 * down e)) (Bool·beq s false || eqb (n * up e * 1) 0) (eq→eqb p) (or-r (Bool·beq s false) (eqb (n * up e * 1) 0) (eq→eqb q))
 
 round-zero : (s : Bool) (c : ℕ) → 0 < c → T (isZero (round binary64 s 0 c))
 round-zero s c C = from (round binary64 s 0 c) (round-exact binary64 s 0 c 0 0 C (pow-pos (prec binary64)) (pow-pos (low binary64 + suc (emax binary64))) (zero-mul (2 ^ low binary64) ∙ sym (zero-mul c)))

@@ -13,9 +13,12 @@ use Rattle.definitions.specs.Numbers.{_⊕_, _⊗_, _⊘_, smallest, finite, is
 use Rattle.rounding.proofs.Finite.{sum-finite, product-finite}
 use Rattle.elimination.specs.Steps.{timesInRange, rowTest}
 use Rattle.elimination.specs.Told.{Told, RowFinite, Covering}
-use Rattle.elimination.proofs.Cases.{by-equal, by-order}
-use Rattle.elimination.proofs.Flags.{same-truth, both, both-left, both-right, each, every}
-use Rattle.elimination.proofs.Quick.{quick-product, quick-multiplier, zero-product, zero-quotient, product-of-step, step-of-product, step-finite}
+use Rattle.exact.proofs.Cases.{by-equal, by-order}
+use Rattle.exact.proofs.Bools.{same-truth}
+use lib.Ieee.Fits.{and-i, and-l, and-r}
+use Rattle.steps.proofs.All.{each, every}
+use Rattle.elimination.proofs.Quick.{quick-product, quick-multiplier, zero-product, zero-quotient}
+use Rattle.steps.proofs.AddProduct.{product-of-step, step-of-product, step-finite}
 
 -- A row without one of its places.
 module _ (q : ℕ → Bool) (i : ℕ) where
@@ -52,7 +55,7 @@ module _ (q : ℕ → Bool) (lo i hi : ℕ) (low : lo ≤ i) (high : i < hi) whe
   parts-of-whole : T whole → T (left && right)
   unfolding whole left right
   parts-of-whole t =
-      both left right
+      and-i left right
       (every q lo (i - lo) (λ j l h. each-other q i lo (hi - lo) j t l (omega arith) (λ e. omega arith)))
       (every q (suc i) (hi - suc i) (λ j l h. each-other q i lo (hi - lo) j t (omega arith) (omega arith) (λ e. omega arith)))
 
@@ -60,8 +63,8 @@ module _ (q : ℕ → Bool) (lo i hi : ℕ) (low : lo ≤ i) (high : i < hi) whe
   unfolding whole left right
   whole-of-parts t =
       every-other q i lo (hi - lo) (λ j l h o. by-order j i
-      (λ m. each q lo (i - lo) j (both-left left right t) l (omega arith))
-      (λ m. each q (suc i) (hi - suc i) j (both-right left right t) m (omega arith)))
+      (λ m. each q lo (i - lo) j (and-l left right t) l (omega arith))
+      (λ m. each q (suc i) (hi - suc i) j (and-r left right t) m (omega arith)))
 
   both-sides : (all q lo (i - lo) && all q (suc i) (hi - suc i)) ≡ all (λ j. eqb i j || q j) lo (hi - lo)
   unfolding whole left right
@@ -75,7 +78,7 @@ either false false c (inr t) = t
 
 division : (x p : Float) → T (finite (x ⊘ p)) → T (isZero x) ⊎ T (lt smallest (x ⊘ p)) → T (divInRange x p)
 unfolding divInRange
-division x p f t = both (finite (x ⊘ p)) (isZero x || isZero p || lt smallest (x ⊘ p)) f (either (isZero x) (isZero p) (lt smallest (x ⊘ p)) t)
+division x p f t = and-i (finite (x ⊘ p)) (isZero x || isZero p || lt smallest (x ⊘ p)) f (either (isZero x) (isZero p) (lt smallest (x ⊘ p)) t)
 
 -- Row i at stage k, from finite results: its multiplier and its products are finite.
 module _ {r k i : ℕ} {p : Float} {own other : ℕ → Float} (l : k < i) (h : RowFinite r k i p own other) where
@@ -107,17 +110,17 @@ module _ (r k i : ℕ) (p : Float) (own other : ℕ → Float) (l : k < i) (h : 
   unfolding rowTest multiplier exit sizes products timesInRange
   test-of-products f t u =
       let times : (j : ℕ) → k ≤ j → j < r → (i ≡ j → ⊥) → T (mulInRange (own k ⊘ p) (other j)) = λ j a b n. each-other (timesInRange (own k ⊘ p) other) i k (r - k) j u a (omega arith) n in
-      both (multiplier && exit) sizes
-      (both multiplier exit t (step-of-product (own i) (own k ⊘ p) (other k) (times k (le-refl k) (omega arith) (λ e. omega arith)) (f .exit)))
+      and-i (multiplier && exit) sizes
+      (and-i multiplier exit t (step-of-product (own i) (own k ⊘ p) (other k) (times k (le-refl k) (omega arith) (λ e. omega arith)) (f .exit)))
       (every-other (λ j. addProductInRange (own j) (own k ⊘ p) (other j)) i (suc k) (r - suc k) (λ j a b n. step-of-product (own j) (own k ⊘ p) (other j) (times j (omega arith) (omega arith) n) (f .sizes j a (omega arith) n)))
 
   multiplier-of-test : T (rowTest r k i p own other) → T multiplier
   unfolding rowTest multiplier exit sizes
-  multiplier-of-test t = both-left multiplier exit (both-left (multiplier && exit) sizes t)
+  multiplier-of-test t = and-l multiplier exit (and-l (multiplier && exit) sizes t)
 
   exit-of-test : T (rowTest r k i p own other) → T exit
   unfolding rowTest multiplier exit sizes
-  exit-of-test t = both-right multiplier exit (both-left (multiplier && exit) sizes t)
+  exit-of-test t = and-r multiplier exit (and-l (multiplier && exit) sizes t)
 
   pub exit-is-finite : T (rowTest r k i p own other) → T (finite (own i ⊕ (own k ⊘ p) ⊗ other k))
   unfolding exit
@@ -128,7 +131,7 @@ module _ (r k i : ℕ) (p : Float) (own other : ℕ → Float) (l : k < i) (h : 
   products-of-test t =
       every-other (timesInRange (own k ⊘ p) other) i k (r - k) (λ j a b n. by-equal j k
       (λ e. rw e (product-of-step (own i) (own k ⊘ p) (other k) (exit-of-test t)))
-      (λ o. product-of-step (own j) (own k ⊘ p) (other j) (each-other (λ j. addProductInRange (own j) (own k ⊘ p) (other j)) i (suc k) (r - suc k) j (both-right (multiplier && exit) sizes t) (omega arith) (omega arith) n)))
+      (λ o. product-of-step (own j) (own k ⊘ p) (other j) (each-other (λ j. addProductInRange (own j) (own k ⊘ p) (other j)) i (suc k) (r - suc k) j (and-r (multiplier && exit) sizes t) (omega arith) (omega arith) n)))
 
   -- The code's tests, for the size x and the multiplier m that it has in hand. Where a quick test passes, finite results are in range.
   quick-row : (T (finite (own k ⊘ p)) → T (isZero (own k)) ⊎ T (lt smallest (own k ⊘ p)))
@@ -172,6 +175,6 @@ module _ (r k i : ℕ) (p : Float) (own other : ℕ → Float) (l : k < i) (h : 
         let sides : left && right ≡ products = ap₂ (λ y z. y && z) (rw e at b) (rw (e, add-one i) at c) ∙ both-sides (timesInRange (own k ⊘ p) other) k i r (omega arith) h in
         let q : t && (left && right) ≡ (multiplier && products) = ap₂ (λ y z. y && z) (rw d at a) sides in
         record {
-          passes = λ u. rw q (both multiplier products (multiplier-of-test u) (products-of-test u));
-          tells = λ f u. let v : T (multiplier && products) = rw q at u in test-of-products f (both-left multiplier products v) (both-right multiplier products v);
+          passes = λ u. rw q (and-i multiplier products (multiplier-of-test u) (products-of-test u));
+          tells = λ f u. let v : T (multiplier && products) = rw q at u in test-of-products f (and-l multiplier products v) (and-r multiplier products v);
         }

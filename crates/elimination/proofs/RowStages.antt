@@ -14,8 +14,8 @@ use Rattle.elimination.specs.Places.{table32, Holds}
 use Rattle.elimination.specs.Operators.{span}
 use Rattle.elimination.specs.Steps.{plusMultiple, plusMultipleInRange, staged, stagedInRange}
 use Rattle.elimination.specs.Told.{Told, FiniteRow, Covering, QuickRow, productsAt}
-use Rattle.elimination.proofs.Flags.{each, every}
-use Rattle.elimination.proofs.RowSteps.{step-same}
+use Rattle.steps.proofs.All.{each, every}
+use Rattle.steps.proofs.AddProduct.{step-same}
 use Rattle.elimination.proofs.Multiples.{by-products, quick-row-tells}
 use Rattle.elimination.proofs.Loops.{Along, along-past, along-else, along-joins}
 

@@ -6,13 +6,7 @@ use lib.Ieee.{Float}
 use Rattle.definitions.specs.Numbers.{_⊕_, _⊗_, _⊘_, mulInRange, divInRange, addProductInRange}
 use Rattle.elimination.specs.Operators.{between}
 use Rattle.elimination.specs.Steps.{plusMultiple, timesInRange, over, overInRange, overPivot, overPivotInRange}
-
-module _ {x x' m m' y y' : Float} (a : x ≡ x') (e : m ≡ m') (b : y ≡ y') where
-  pub step-same : x ⊕ m ⊗ y ≡ x' ⊕ m' ⊗ y'
-  step-same = rw (a, e, b)
-
-  pub step-test-same : addProductInRange x m y ≡ addProductInRange x' m' y'
-  step-test-same = rw (a, e, b)
+use Rattle.steps.proofs.AddProduct.{step-same}
 
 -- At column j of a row.
 module _ (j : ℕ) (own : ℕ → Float) {x : Float} (a : x ≡ own j) where

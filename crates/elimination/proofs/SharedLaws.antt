@@ -11,12 +11,13 @@ use Rattle.elimination.specs.Places.{systemIn, atStage}
 use Rattle.elimination.specs.Operators.{replace, between, put}
 use Rattle.elimination.specs.Steps.{plusMultiple, eliminatedRow, eliminatedRows, stageDone, stagesDone, stagesInRange, overPivot, upwardRows, overPivotInRange, multipliersInRange, rowMultipliersInRange}
 use Rattle.elimination.specs.Contracts.{Multipliers}
-use Rattle.elimination.proofs.Cases.{by-equal, by-order}
+use Rattle.exact.proofs.Cases.{by-equal, by-order}
 use Rattle.elimination.proofs.Operators.{replace-same, replace-other, between-in, between-low, between-past, between-out}
-use Rattle.elimination.proofs.Flags.{all-same, same-truth, each, every}
+use Rattle.steps.proofs.All.{all-same, each, every}
+use Rattle.exact.proofs.Bools.{same-truth}
 use Rattle.steps.proofs.Tables.{stored-at, storedTable-at}
 use Rattle.steps.proofs.LeavingRates.{begun-at}
-use Rattle.elimination.proofs.Same.{Same, same-same, eliminate-same, p-same, m↓-same, u-same, stage-test-same}
+use Rattle.steps.proofs.Same.{Same, same-same, eliminate-same, p-same, m↓-same, u-same, stage-test-same}
 
 -- Stage k of a table f, row by row.
 module _ (r k : ℕ) (f : ℕ → ℕ → Float) where

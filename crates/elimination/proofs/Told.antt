@@ -7,8 +7,10 @@ use mathlib.Core.Bool.{Bool, true, _&&_}
 use lib.Dec.{T}
 use Rattle.definitions.specs.Numbers.{all}
 use Rattle.elimination.specs.Told.{Told}
-use Rattle.elimination.proofs.Cases.{by-equal}
-use Rattle.elimination.proofs.Flags.{same-truth, both, both-left, both-right, each, every}
+use Rattle.exact.proofs.Cases.{by-equal}
+use Rattle.exact.proofs.Bools.{same-truth}
+use lib.Ieee.Fits.{and-i, and-l, and-r}
+use Rattle.steps.proofs.All.{each, every}
 
 pub told-same : {ok test : Bool} {F : Type 0} → Told ok test F → (T test → F) → (T ok → F) → ok ≡ test
 told-same {ok} {test} h f g = same-truth ok test (λ t. h .tells (g t) t) (h .passes)
@@ -20,8 +22,8 @@ told-from h f = record { passes = h .passes; tells = λ g t. h .tells (f g) t }
 pub told-both : {a b p q : Bool} {F G : Type 0} → Told a p F → Told b q G → Told (a && b) (p && q) (F × G)
 told-both {a} {b} {p} {q} h k =
     record {
-      passes = λ t. both a b (h .passes (both-left p q t)) (k .passes (both-right p q t));
-      tells = λ f t. both p q (h .tells (f .0) (both-left a b t)) (k .tells (f .1) (both-right a b t));
+      passes = λ t. and-i a b (h .passes (and-l p q t)) (k .passes (and-r p q t));
+      tells = λ f t. and-i p q (h .tells (f .0) (and-l a b t)) (k .tells (f .1) (and-r a b t));
     }
 
 pub told-exactly : {ok test : Bool} {F : Type 0} → ok ≡ test → Told ok test F
@@ -42,10 +44,10 @@ module _ {test : ℕ → Bool} {F : ℕ → Type 0} {lo j : ℕ} {ok : Bool} (h 
   told-turns {now} k =
       record {
         from = omega (arith, h .from);
-        passes = λ f. both ok now (h .passes (λ i l m. f i l (omega arith))) (k .passes (f j (h .from) (omega arith)));
+        passes = λ f. and-i ok now (h .passes (λ i l m. f i l (omega arith))) (k .passes (f j (h .from) (omega arith)));
         tells = λ f t i l m. by-equal i j
-            (λ e. rw e (k .tells (f j (h .from) (omega arith)) (both-right ok now t)))
-            (λ n. h .tells (λ i' l' m'. f i' l' (omega arith)) (both-left ok now t) i l (omega arith));
+            (λ e. rw e (k .tells (f j (h .from) (omega arith)) (and-r ok now t)))
+            (λ n. h .tells (λ i' l' m'. f i' l' (omega arith)) (and-l ok now t) i l (omega arith));
       }
 
   pub told-ends : {hi : ℕ} → j ≤ hi → hi ≤ j → Told ok (all test lo (hi - lo)) ((i : ℕ) → lo ≤ i → i < hi → F i)

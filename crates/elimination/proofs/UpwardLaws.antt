@@ -12,12 +12,11 @@ use Rattle.elimination.specs.Places.{table32, Holds}
 use Rattle.elimination.specs.Operators.{replace, between, span}
 use Rattle.elimination.specs.Steps.{plusMultiple, plusMultipleInRange, rowsAddedInRange, upDone, upInRange, staged, stagedInRange, climbed, climbInRange}
 use Rattle.elimination.specs.Told.{Told, FiniteRow, FiniteTable, Bound, Covering, Least, QuickRow, productsAt}
-use Rattle.elimination.proofs.Cases.{by-equal, by-order}
-use Rattle.elimination.proofs.Flags.{each, every, all-same}
-use Rattle.elimination.proofs.Exchange.{corner, reversed}
+use Rattle.exact.proofs.Cases.{by-equal, by-order}
+use Rattle.steps.proofs.All.{each, every, all-same, corner, reversed}
 use Rattle.elimination.proofs.Told.{told-from}
 use Rattle.elimination.proofs.Bounds.{covering-less}
-use Rattle.elimination.proofs.RowSteps.{step-same, step-test-same}
+use Rattle.steps.proofs.AddProduct.{step-same, step-test-same}
 use Rattle.elimination.proofs.RowStages.{Staged, staged-turns, parts-join, staged-by-products, staged-by-bound}
 use Rattle.elimination.proofs.Operators.{between-in, between-low, between-past, between-none, between-front, span-row}
 use Rattle.elimination.proofs.ColumnSteps.{added, up-keeps, up-outside}

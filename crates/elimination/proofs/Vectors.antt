@@ -9,7 +9,7 @@ use lib.Seq.{getD-set-same, getD-set-other}
 use lib.Ieee.{Float}
 use Rattle.definitions.specs.Numbers.{0·0}
 use Rattle.elimination.specs.Operators.{replace, between}
-use Rattle.elimination.proofs.Cases.{by-equal, by-order}
+use Rattle.exact.proofs.Cases.{by-equal, by-order}
 use Rattle.elimination.proofs.Places.{any-default}
 use Rattle.elimination.proofs.Operators.{replace-same, replace-other, between-none, between-step}
 use Rattle.elimination.specs.Vectors.{vector, IsVector}

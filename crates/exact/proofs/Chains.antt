@@ -11,6 +11,8 @@ use lib.Dec.{T}
 use Rattle.exact.specs.Chains.{In, GetsOut, stop, go, any, outWithin, WithinDecidesChains}
 use Rattle.exact.specs.Sums.{sum}
 use Rattle.exact.proofs.Sums.{sum-ones, sum-tight}
+use lib.Ieee.Fits.{and-i, and-l, and-r}
+use Rattle.exact.proofs.Bools.{or-l, or-r, or-cases}
 
 -- Whether a stage gets out depends on the moves between different stages and on the exits: more of them, and it still does.
 pub gets-out-mono :
@@ -25,30 +27,13 @@ gets-out-mono {k} {m} {move} {move′} {exit} {exit′} f g l (go {i = i} {j = j
       | no d ↦ go (f i j l n d t) n (gets-out-mono f g n c)
     ]
 
-or-left : (a b : Bool) → T a → T (a || b)
-or-left true b t = tt
-
-or-right : (a b : Bool) → T b → T (a || b)
-or-right true b t = tt
-or-right false b t = t
-
-or-cases : (a b : Bool) → T (a || b) → T a ⊎ T b
-or-cases true b t = inl tt
-or-cases false b t = inr t
-
-and-both : (a b : Bool) → T (a && b) → T a × T b
-and-both true b t = (tt, t)
-
-and-intro : (a b : Bool) → T a → T b → T (a && b)
-and-intro true b s t = t
-
 pub any-intro : (p : ℕ → Bool) (k m i : ℕ) → In k m i → T (p i) → T (any p k m)
 unfolding any
 any-intro p k zero i l t = omega arith
 any-intro p k (suc m) i l t =
     elim (ℕ-discrete i (k + m)) [
-      | yes e ↦ or-right (any p k m) (p (k + m)) (subst (λ x. T (p x)) e t)
-      | no d ↦ or-left (any p k m) (p (k + m)) (any-intro p k m i (omega arith) t)
+      | yes e ↦ or-r (any p k m) (p (k + m)) (subst (λ x. T (p x)) e t)
+      | no d ↦ or-l (any p k m) (p (k + m)) (any-intro p k m i (omega arith) t)
     ]
 
 pub any-some : (p : ℕ → Bool) (k m : ℕ) → T (any p k m) → (i : ℕ) × In k m i × T (p i)
@@ -91,13 +76,13 @@ module _ (k m : ℕ) (move : ℕ → ℕ → Bool) (exit : ℕ → Bool) where
 
   more-moves : (q i : ℕ) → T (Out q i) → T (Out (suc q) i)
   unfolding outWithin
-  more-moves q i t = or-left (Out q i) (any (then-out q i) k m) t
+  more-moves q i t = or-l (Out q i) (any (then-out q i) k m) t
 
   one-move : (q i j : ℕ) → T (move i j) → In k m j → T (Out q j) → T (Out (suc q) i)
   unfolding outWithin
   one-move q i j s l t =
-      let h = any-intro (then-out q i) k m j l (and-intro (move i j) (Out q j) s t) in
-      or-right (Out q i) (any (then-out q i) k m) h
+      let h = any-intro (then-out q i) k m j l (and-i (move i j) (Out q j) s t) in
+      or-r (Out q i) (any (then-out q i) k m) h
 
   out-by-exit : (q i : ℕ) → T (exit i) → T (Out q i)
   unfolding outWithin
@@ -121,7 +106,8 @@ module _ (k m : ℕ) (move : ℕ → ℕ → Bool) (exit : ℕ → Bool) where
         | inl a ↦ chain-of q i a
         | inr b ↦
             let (j, l, h) = any-some (then-out q i) k m b in
-            let (s, u) = and-both (move i j) (Out q j) h in
+            let s = and-l (move i j) (Out q j) h in
+            let u = and-r (move i j) (Out q j) h in
             go s l (chain-of q j u)
       ]
 

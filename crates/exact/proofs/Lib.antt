@@ -1,3 +1,5 @@
+pub mod Cases
+pub mod Bools
 pub mod Sums
 pub mod Chains
 pub mod Near

@@ -14,7 +14,7 @@ use Rattle.definitions.specs.Margins.{stagesWith, rank}
 use Rattle.steps.proofs.Compact.{list-take, list-leave, rank-none, rank-take, rank-leave, Listed, listed}
 use Rattle.elimination.specs.Places.{table32, Holds}
 use Rattle.elimination.specs.Operators.{replace, between, put, span}
-use Rattle.elimination.proofs.Cases.{by-equal}
+use Rattle.exact.proofs.Cases.{by-equal}
 use Rattle.elimination.proofs.Operators.{replace-same, replace-other, replace-own, put-replaced}
 use Rattle.margins.specs.Compact.{stageAt, Listing, Stages, rate, packedRow, placed, unpackedRow}
 

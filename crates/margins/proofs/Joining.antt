@@ -14,13 +14,16 @@ use Rattle.definitions.specs.Margins.{sumWith, sumWithInRange, joinInRange}
 use Rattle.steps.proofs.Margins.{kept-is, known-is, x-kept, join-corner, join-row, join-column, join-other}
 use Rattle.elimination.specs.Places.{table32, Holds, Gives}
 use Rattle.elimination.specs.Operators.{between}
-use Rattle.elimination.proofs.Cases.{by-equal, by-order}
+use Rattle.exact.proofs.Cases.{by-equal, by-order, by-bool}
 use Rattle.elimination.proofs.Operators.{replace-same, replace-other, between-in, between-past}
 use Rattle.elimination.specs.Vectors.{vector}
 use Rattle.margins.specs.Ratios.{margin, ratio, diagonalOf, Diagonals}
 use Rattle.margins.specs.Compact.{keeps}
 use Rattle.margins.specs.Join.{knows, unitRow, factorsOf, columnRow, joinedTable, placeInRange, joinTest, isKept, isKnown, xAfter, dueInRange, Known, StageJoins, StagesJoin}
-use Rattle.margins.proofs.Conditions.{by-bool, if-same, and-assoc, all-below, sumWith-same, sumWithInRange-same, asked-once}
+use Rattle.exact.proofs.Bools.{if-same, and-assoc}
+use Rattle.steps.proofs.All.{all-below}
+use Rattle.margins.proofs.Conditions.{asked-once}
+use Rattle.steps.proofs.Sums.{sumWith-same, sumWithInRange-same}
 
 -- ---- the table, place by place
 module _ (n : ℕ) (known : ℕ → Bool) (c : ℕ) (w : ℕ → Float) where

@@ -12,21 +12,22 @@ use borrow.Author.Tests.{lt-leb}
 use Rattle.definitions.specs.Numbers.{_⊗_, _⊘_, 0·0, mulInRange, divInRange, sum, sumInRange, all}
 use Rattle.definitions.specs.LeavingRates.{downward, quotient, inRange}
 use Rattle.definitions.specs.Margins.{stagesWith, rank, keptSystem, y, scaledInRange, backInRange}
-use Rattle.steps.proofs.Sums.{sum-cong}
+use Rattle.steps.proofs.Sums.{sum-same, sum-in-range-same}
 use Rattle.steps.proofs.Compact.{rank-below, stage-of-rank}
 use Rattle.steps.proofs.Margins.{kept-size, kept-exit, y-is, x-start, known-is}
 use Rattle.elimination.specs.Places.{table32, at32, systemOf, Holds}
 use Rattle.elimination.specs.Operators.{between}
-use Rattle.elimination.proofs.Same.{Same, same-quotient, same-in-range}
+use Rattle.steps.proofs.Same.{Same, same-quotient, same-in-range}
 use Rattle.elimination.proofs.Operators.{replace-same, replace-other, between-in}
 use Rattle.elimination.proofs.Places.{table-at}
-use Rattle.elimination.proofs.Flags.{same-truth, all-same}
+use Rattle.exact.proofs.Bools.{same-truth, if-in, if-out, and-assoc, or-assoc}
 use Rattle.elimination.specs.Vectors.{vector}
 use Rattle.margins.specs.Ratios.{margin, ratio, diagonalOf, Ratios}
 use Rattle.margins.specs.Compact.{keeps, stageAt, Listing, rate, packedRow, placed, unpackedRow}
 use Rattle.margins.specs.Range.{sizeInRange, rateInRange}
 use Rattle.margins.specs.Join.{isKept, isKnown, Untouched, Known}
-use Rattle.margins.proofs.Conditions.{by-bool, if-in, if-out, and-assoc, or-assoc, all-below, each-below, every-below, sumInRange-same}
+use Rattle.exact.proofs.Cases.{by-bool}
+use Rattle.steps.proofs.All.{all-below, all-same, each-below, every-below}
 use Rattle.margins.proofs.CompactLaws.{listing-at, listing-stage, placed-at, placed-else, placed-column}
 use Rattle.margins.proofs.Joining.{keeps-is}
 
@@ -105,7 +106,7 @@ module _ {n : ℕ} {f : ℕ → ℕ → Float} {h a k : List Float} (known : Rat
       (λ j. divInRange (f j j) (diagonalOf n f j) && mulInRange (f i j) (f j j ⊘ diagonalOf n f j))
       (suc i) (n - suc i)
       (λ j m o. let g : j < n = omega arith in ap₂ _&&_ (ap (divInRange (f j j)) (known .diagonals .a-is j g)) (ap (mulInRange (f i j)) (divisor j g))))
-      (sumInRange-same (λ j. f i j ⊗ (f j j ⊘ vector a j)) (λ j. f i j ⊗ (f j j ⊘ diagonalOf n f j)) (suc i) (n - suc i) refl (λ j m. ap (λ x. f i (suc i + j) ⊗ x) (divisor (suc i + j) (omega arith))))
+      (sum-in-range-same 0·0 0·0 (λ j. f i j ⊗ (f j j ⊘ vector a j)) (λ j. f i j ⊗ (f j j ⊘ diagonalOf n f j)) (suc i) (n - suc i) refl (λ j m o. ap (λ x. f i j ⊗ x) (divisor j (omega arith))))
 
   pub scaled-test :
       all (λ p. all (λ q. sizeInRange f (vector k) (stageAt stages p) (stageAt stages q)) 0 r && rateInRange n f (vector a) (stageAt stages p)) 0 r
@@ -143,11 +144,11 @@ module _ {n : ℕ} {f : ℕ → ℕ → Float} {h a k : List Float} (known : Rat
     packed-exit p l =
         packed-at p p l l
         ∙ replace-same p (rate n r (stageAt stages) f (vector a) (vector k) (stageAt stages p)) (between 0 r (λ q. f (stageAt stages p) (stageAt stages q) ⊗ vector k (stageAt stages q)) (z p))
-        ∙ sum-cong 0·0
+        ∙ sum-same 0·0 0·0
         (λ j. f (stageAt stages p) j ⊗ (f j j ⊘ vector a j))
         (λ j. f (stageAt stages p) j ⊗ (f j j ⊘ diagonalOf n f j))
-        (suc (stageAt stages p)) (n - suc (stageAt stages p))
-        (λ j m. ap (λ x. f (stageAt stages p) (suc (stageAt stages p) + j) ⊗ x) (divisor (suc (stageAt stages p) + j) (omega arith)))
+        (suc (stageAt stages p)) (n - suc (stageAt stages p)) refl
+        (λ j m o. ap (λ x. f (stageAt stages p) j ⊗ x) (divisor j (omega arith)))
 
     alike : Same r 0 (systemOf s) (keptSystem n f (margin f) (ratio n f))
     alike =

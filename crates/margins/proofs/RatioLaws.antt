@@ -14,7 +14,7 @@ use Rattle.definitions.specs.Margins.{hOf, kBefore, h, a}
 use Rattle.steps.proofs.Tables.{length-list}
 use Rattle.steps.proofs.Margins.{known-by, h-known-by, k-is, h-is, a-is}
 use Rattle.elimination.specs.Operators.{replace}
-use Rattle.elimination.proofs.Cases.{by-equal, by-order}
+use Rattle.exact.proofs.Cases.{by-equal, by-order}
 use Rattle.elimination.proofs.Operators.{replace-same, replace-other}
 use Rattle.elimination.specs.Vectors.{vector, IsVector}
 use Rattle.margins.specs.Ratios.{margin, ratio, sumOf, diagonalOf, RatiosBefore, Ratios}

@@ -19,7 +19,7 @@ use Rattle.margins.specs.Compact.{keeps, stageAt, Listing, packedRow, pl
 use Rattle.margins.specs.Range.{sizeInRange, rateInRange}
 use Rattle.margins.specs.Join.{isKept, isKnown, StagesJoin}
 use Rattle.margins.specs.Contracts.{systemInRange, engineInRange, wayBackInRange, KeptSolved, Solved}
-use Rattle.margins.proofs.Conditions.{and-assoc}
+use Rattle.exact.proofs.Bools.{and-assoc, or-true}
 use Rattle.margins.proofs.CompactLaws.{listing-stages}
 use Rattle.margins.proofs.Keeping.{scaled-test, engine-test, engine-is, back-test, back-known, back-rest}
 
@@ -52,10 +52,6 @@ module _ {n : ℕ} {f : ℕ → ℕ → Float} {h a k : List Float} (known : Rat
 -- In the end every stage is known.
 at-last : (n : ℕ) (f : ℕ → ℕ → Float) (i : ℕ) → isKnown n f n i ≡ true
 at-last n f i = known-is n f (margin f) (ratio n f) n i ∙ ap (λ b. isKept n f i || b) (le-leb (n - n) i (omega arith)) ∙ or-true (isKept n f i)
-  where
-    or-true : (b : Bool) → (b || true) ≡ true
-    or-true true = refl
-    or-true false = refl
 
 -- The whole sheet.
 module _ {n : ℕ} {f : ℕ → ℕ → Float} where

@@ -1,6 +1,5 @@
 pub mod Writing
 pub mod Loading
-pub mod SameMargins
 pub mod Loaded
 pub mod Stepped
 pub mod Allowances

@@ -9,9 +9,9 @@ use Rattle.definitions.specs.Sheet.{size, diagonal, system}
 use Rattle.elimination.specs.Places.{table32, systemOf, Holds}
 use Rattle.elimination.proofs.Places.{table-at}
 use Rattle.elimination.proofs.ColumnSteps.{rows-inside}
-use Rattle.elimination.proofs.Same.{Same}
+use Rattle.steps.proofs.Same.{Same}
 use Rattle.planner.specs.Loading.{sheetPlace, loadedRows}
-use Rattle.planner.proofs.SameMargins.{SameSheet}
+use Rattle.steps.proofs.SameMargins.{SameSheet}
 
 module _ (n : ℕ) (small : n ≤ 32) (sheet : List Float) (f : ℕ → ℕ → Float) {t : List Float} (h : Holds t (loadedRows n sheet n f)) where
   loaded-at : (i j : ℕ) → i < n → j < n → table32 t i j ≡ sheetPlace n sheet i j

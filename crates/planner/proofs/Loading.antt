@@ -10,7 +10,7 @@ use Rattle.definitions.specs.Sheet.{place, size, diagonal}
 use Rattle.rounding.proofs.Steps.{zero-word}
 use Rattle.elimination.specs.Places.{table32, Holds}
 use Rattle.elimination.specs.Operators.{replace, between, put, span}
-use Rattle.elimination.proofs.Cases.{by-equal, by-order}
+use Rattle.exact.proofs.Cases.{by-equal, by-order}
 use Rattle.elimination.proofs.Operators.{replace-same, replace-other, between-in, between-past, put-replaced}
 use Rattle.planner.specs.Loading.{sheetPlace, loadedRow}
 

@@ -27,6 +27,7 @@ use Rattle.planner.specs.Readings.{Stepped}
 use Rattle.planner.specs.Promises.{TableDone, EntryDone}
 use Rattle.steps.proofs.Tables.{rows-same, place-of-rows}
 use Rattle.planner.proofs.Asked.{never-both, after-refusal, out-of-range, in-range}
+use Rattle.exact.proofs.Bools.{holds}
 
 -- Demand 3 looks only at the entries below n.
 accurate-same : {n E : ℕ} {on : ℕ → Bool} {A : ℕ → ℕ → Fraction} {x : ℕ → ℕ → Float} (y : ℕ → ℕ → Float)
@@ -38,9 +39,6 @@ accurate-same {n} {E} y e a =
       unique = a .unique;
       within = λ i j si sj. subst (λ z. Within E z (a .X i j)) (e i j (si .below) (sj .below)) (a .within i j si sj);
     }
-
-is-so : {b : Bool} → b ≡ true → T b
-is-so e = subst T (sym e) tt
 
 module _ (reading n : ℕ) (sheet : List Float) where
   -- The whole table: a refusal, in range or not, and the table.
@@ -71,7 +69,7 @@ module _ (reading n : ℕ) (sheet : List Float) where
           accurate-table reading n sheet fit
           (then-first (question1 reading) (question2 n then question3 n (length sheet) then question4 n (length before) then numberQuestions reading n sheet) passed)
           (table-numbers reading n sheet (length before) passed)
-          (is-so (sym (stepped .range) ∙ e))
+          (holds (sym (stepped .range) ∙ e))
 
       pub table-given : {after : List Float} {allowed : ℕ} → Binary64 sheet → ok ≡ true
           → after ≡ rows (table32 x) n n ++ drop (n * n) before → allowed ≡ allowance reading n
@@ -116,7 +114,7 @@ module _ (reading n : ℕ) (sheet : List Float) where
           accurate-table reading n sheet fit
           (then-first (question1 reading) (question2 n then question3 n (length sheet) then question5 n i j then numberQuestions reading n sheet) passed)
           (entry-numbers reading n sheet i j passed)
-          (is-so (sym (stepped .range) ∙ e))
+          (holds (sym (stepped .range) ∙ e))
 
       pub entry-given : {value : Float} → Binary64 sheet → ok ≡ true → value ≡ table32 x (i - 1) (j - 1) → EntryDone reading n sheet i j (given-entry.Seconds value)
       unfolding entryAnswer entryQuestions

@@ -11,15 +11,15 @@ use Rattle.definitions.specs.Table.{entry, everyStepInRange}
 use Rattle.elimination.specs.Places.{at32, table32, systemOf, Holds}
 use Rattle.elimination.specs.Contracts.{Keeps, Solved}
 use Rattle.elimination.proofs.Places.{table-at}
-use Rattle.elimination.proofs.Same.{same-quotient, same-in-range}
-use Rattle.elimination.proofs.Cases.{by-order}
+use Rattle.steps.proofs.Same.{same-quotient, same-in-range}
+use Rattle.exact.proofs.Cases.{by-order}
 use Rattle.margins.specs.Join.{Untouched}
 use Rattle.margins.specs.Contracts as margins
 use Rattle.sheet.specs.Places.{Square}
 use Rattle.planner.specs.Loading.{loadedRows}
 use Rattle.planner.specs.Readings.{Stepped}
 use Rattle.planner.proofs.Loaded.{loaded-system, loaded-margins}
-use Rattle.planner.proofs.SameMargins.{entry-same, margins-in-range-same}
+use Rattle.steps.proofs.SameMargins.{entry-same, margins-in-range-same}
 
 -- Reading 1.
 pub first-stepped : {n : ℕ} {sheet t x t-after x-after : List Float} {ok : Bool} (f : ℕ → ℕ → Float)

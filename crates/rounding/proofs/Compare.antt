@@ -11,6 +11,7 @@ use lib.Ieee.{Float, fin, Format, low, up, down, lt, eq, le}
 use lib.Ieee.Fits.{down-pos, eq→eqb}
 use Rattle.rounding.specs.Good.{GoodIn}
 use Rattle.rounding.proofs.Value.{amount, by-parts, value}
+use Rattle.exact.proofs.Bools.{and-true}
 
 pub same-test : (a b : Bool) → (T a → T b) → (T b → T a) → a ≡ b
 same-test true true p q = refl
@@ -37,10 +38,6 @@ transfer test scale a p b q u v l P Q L h k =
     sym (scale (a * q) (b * p) l L)
     ∙ ap₂ test (mul-right-comm a q l ∙ ap (λ (z : ℕ). z * q) h ∙ mul-assoc u p q) (mul-right-comm b p l ∙ ap (λ (z : ℕ). z * p) k ∙ mul-assoc v q p ∙ ap (λ (z : ℕ). v * z) (mul-comm q p))
     ∙ scale u v (p * q) (mul-pos P Q)
-
-and-true : (b : Bool) → (b && true) ≡ b
-and-true true = refl
-and-true false = refl
 
 le-test : (a b : ℕ) → (ltb a b || eqb a b) ≡ leb a b
 le-test a b = same-test (ltb a b || eqb a b) (leb a b) (forth (ltb a b) (eqb a b) (λ t. le→leb a b (le-of-lt (ltb→lt a b t))) (λ t. le→leb a b (le-of-eq (eqb→eq a b t)))) back

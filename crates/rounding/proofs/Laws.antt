@@ -20,6 +20,7 @@ use Rattle.rounding.proofs.Grid.{Within, within-same, within-zero}
 use Rattle.rounding.proofs.Round.{zero-good, zero-amount}
 use Rattle.rounding.proofs.Compare.{lt-amounts, eq-amounts}
 use Rattle.rounding.proofs.Operations.{add-good, add-near, mul-good, mul-near, div-good, div-near, mul-of-zero, div-of-zero, divisor-pos}
+use Rattle.exact.proofs.Bools.{or-cases}
 
 -- ---- binary64's own names
 pub units-is : (x : Float) → units x ≡ amount binary64 x
@@ -94,10 +95,6 @@ pub sum-rounds : SumRounds
 sum-rounds x y g h t = rw (units-is (x ⊕ y), units-is x, units-is y) (within-near (amount binary64 (x ⊕ y)) (amount binary64 x + amount binary64 y) (add-near g h (sum-in-range x y t)))
 
 -- ---- products and quotients
-or-cases : (a b : Bool) → T (a || b) → T a ⊎ T b
-or-cases true b t = inl tt
-or-cases false b t = inr t
-
 -- The range test of both: the result r is finite, and x or y is zero or r is above 2^-1022.
 in-range : (x y r : Float) → T (finite r && (isZero x || isZero y || lt smallest r)) → T (finite r) × (T (isZero x) ⊎ (T (isZero y) ⊎ T (lt smallest r)))
 in-range x y r t = (

@@ -18,21 +18,13 @@ use Rattle.rounding.proofs.Laws.{units-is, zero-is-good, one-is-good, u
 use Rattle.rounding.proofs.Operations.{mul-good, mul-of-zero}
 use Rattle.rounding.proofs.Order.{product-monotone}
 use Rattle.rounding.proofs.Zeros.{times-one}
+use Rattle.exact.proofs.Bools.{or-l, or-r, or-true, or-false}
 
 pub good-finite : {x : Float} → Good x → T (finite x)
 unfolding finite
 good-finite {x} g = by-parts binary64 (λ x. T (finite x)) (λ m e g. tt) x g
 
 -- ---- a product
-or-first : (a b : Bool) → T a → T (a || b)
-or-first true b t = tt
-or-first false b t = absurd t
-
-or-last : (a b c : Bool) → T c → T (a || b || c)
-or-last true b c t = tt
-or-last false true c t = tt
-or-last false false c t = t
-
 product-test : (x y : Float) → T (finite (x ⊗ y)) → T (isZero x || isZero y || lt smallest (x ⊗ y)) → T (mulInRange x y)
 unfolding mulInRange
 product-test x y t u = and-i (finite (x ⊗ y)) (isZero x || isZero y || lt smallest (x ⊗ y)) t u
@@ -49,7 +41,7 @@ product-in-range {x} {x'} {y} {y'} g g' h h' p q a t =
     let r : Good (x ⊗ y) = mul-good g h (in-scale (x ⊗ y) (m .is-finite)) in
     let r' : Good (x' ⊗ y') = mul-good g' h' (in-scale (x' ⊗ y') t) in
     product-test x' y' t
-    (or-last (isZero x') (isZero y') (lt smallest (x' ⊗ y')) (above-more r r' (m .no-more) a))
+    (or-r (isZero x' || isZero y') (lt smallest (x' ⊗ y')) (above-more r r' (m .no-more) a))
 
 -- A factor that is one at most: where the product is above 2^-1022, so is the other number.
 pub factor-above : {x y : Float} → Good x → Good y → units y ≤ one·units → T (lt smallest (x ⊗ y)) → T (lt smallest x)
@@ -86,14 +78,6 @@ product-zero-test a b = elim (eq-zero-or-pos b) [
   | inl z ↦ rw (z, mul-zero a) (sym (or-true (eqb a 0)))
   | inr p ↦ factor-test a b p ∙ sym (ap (λ (t : Bool). eqb a 0 || t) (is-false (eqb b 0) (not-T (eqb b 0) (λ t. lt-irrefl 0 (rw (eqb→eq b 0 t) at p)))) ∙ or-false (eqb a 0))
 ]
-  where
-    or-true : (t : Bool) → (t || true) ≡ true
-    or-true true = refl
-    or-true false = refl
-
-    or-false : (t : Bool) → (t || false) ≡ t
-    or-false true = refl
-    or-false false = refl
 
 pub one-pos : 0 < one·units
 unfolding one·units
@@ -127,4 +111,4 @@ module _ {x y : Float} (g : Good x) (h : Good y) where
   pub zero-in-range : T (isZero x || isZero y) → T (mulInRange x y)
   zero-in-range z =
       let e : units x * units y ≡ 0 = eqb→eq (units x * units y) 0 (rw (product-zero-test (units x) (units y), ← is-zero g, ← is-zero h) z) in
-      product-test x y (rw (mul-of-zero g h (rw (units-is x, units-is y) at e)) (good-finite zero-is-good)) (or-first (isZero x || isZero y) (lt smallest (x ⊗ y)) z)
+      product-test x y (rw (mul-of-zero g h (rw (units-is x, units-is y) at e)) (good-finite zero-is-good)) (or-l (isZero x || isZero y) (lt smallest (x ⊗ y)) z)

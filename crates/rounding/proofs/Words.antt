@@ -7,6 +7,7 @@ use lib.Arith.{le→nltb}
 use lib.Ieee.{Float, nan, inf, fin, binary64, fits, isNan, ofBits, toBits, nanBits, div, ne}
 use lib.Ieee.Bits.{ofBits-toBits, toBits-lt, toBits-ofBits, nanBits-is, nanBits-above}
 use lib.Ieee.Compare.{differs-from-itself}
+use Rattle.definitions.specs.Numbers.{0·0, 1·0}
 
 -- The word of plus infinity; above it, the sign taken off, are the NaN patterns.
 abbrev infinity : ℕ
@@ -49,3 +50,12 @@ word-lt x t = toBits-lt binary64 x t
 
 pub number-of-word : (w : ℕ) → w < 2 ^ 64 → T (not (nanBits binary64 w)) → toBits binary64 (ofBits binary64 w) ≡ w
 number-of-word w h n = toBits-ofBits binary64 w h (rw (← nanBits-is binary64 w) n)
+
+-- The numbers 0.0 and 1.0 of the code.
+pub zero-word : ofBits binary64 0 ≡ 0·0
+unfolding ofBits
+zero-word = refl
+
+pub one-word : ofBits binary64 4607182418800017408 ≡ 1·0
+unfolding ofBits
+one-word = refl

@@ -31,17 +31,6 @@ pub or-cases : (a b : Bool) → (a || b) ≡ true → (a ≡ true) ⊎ (b ≡ tr
 or-cases true b e = inl refl
 or-cases false b e = inr e
 
-pub contrary : (a : Bool) → a ≡ true → a ≡ false → ⊥
-contrary true t f = let z : _≡_ {A = ℕ} 0 1 = cc in omega arith
-contrary false t f = let z : _≡_ {A = ℕ} 0 1 = cc in omega arith
-
-pub is-true : (a : Bool) → T a → a ≡ true
-is-true true t = refl
-is-true false t = absurd t
-
-pub holds : {a : Bool} → a ≡ true → T a
-holds e = rw e tt
-
 -- A loop's flag, which says of every number before i that it has p, and the test of i.
 pub and-more : (p : ℕ → Type 0) (i : ℕ) (a b : Bool) → (a ≡ true → (k : ℕ) → k < i → p k) → (b ≡ true → p i)
     → (a && b) ≡ true → (k : ℕ) → k < i + 1 → p k

@@ -16,7 +16,8 @@ use Rattle.definitions.specs.Questions.{moves, leaves, getsOut}
 use Rattle.rounding.proofs.Compare.{same-test}
 use Rattle.sheet.specs.declared.Marks.{Marks}
 use Rattle.sheet.specs.Marks.{isMarked, countOf, Marked, Counted}
-use Rattle.sheet.proofs.Bools.{or-always, or-cases, is-true, holds}
+use Rattle.sheet.proofs.Bools.{or-always, or-cases}
+use Rattle.exact.proofs.Bools.{is-true, holds}
 use Rattle.sheet.proofs.Counts.{count-few, count-more, count-full}
 use Rattle.sheet.proofs.Stages.{marked-same}
 

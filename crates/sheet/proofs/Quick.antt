@@ -20,7 +20,8 @@ use Rattle.definitions.specs.Sheet.{place}
 use Rattle.definitions.specs.Questions.{pass, largeEnough}
 use Rattle.rounding.proofs.Steps.{zero-word, smallest-word}
 use Rattle.sheet.specs.Places.{signAt, passes, PassesOn, PassesOff, placePasses, askPlaces}
-use Rattle.sheet.proofs.Bools.{or-always, and-both, or-cases, contrary}
+use Rattle.sheet.proofs.Bools.{or-always, and-both, or-cases}
+use Rattle.exact.proofs.Bools.{contrary}
 use Rattle.sheet.proofs.Rows.{rows-pass}
 
 either : (c : Bool) {a b : Bool} → a ≡ true → b ≡ true → cond c a b ≡ true

@@ -1,6 +1,11 @@
 pub mod Tables
 pub mod LeavingRates
+pub mod Same
+pub mod All
+pub mod Gathering
 pub mod Sums
+pub mod AddProduct
 pub mod Compact
 pub mod Margins
+pub mod SameMargins
 pub mod Questions

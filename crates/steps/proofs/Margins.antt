@@ -12,7 +12,7 @@ use Rattle.definitions.specs.Numbers.{_⊕_, _⊗_, _⊘_, 0·0, 1·0, sum, isZ
 use Rattle.definitions.specs.LeavingRates.{downward, quotient}
 use Rattle.definitions.specs.Margins.{stagesWith, rank, compact, sumWith, hOf, kBefore, h, a, kept, scaled, keptSystem, y, known, joined, xAfter, entry}
 use Rattle.steps.proofs.Tables.{stored-at, storedTable-at}
-use Rattle.steps.proofs.Sums.{sum-cong}
+use Rattle.steps.proofs.Sums.{sum-same}
 
 module _ (n : ℕ) (t : ℕ → ℕ → Float) (d : ℕ → Float) where
   -- The k_j as they become known: the newest one, and the earlier ones as they were.
@@ -45,8 +45,8 @@ module _ (n : ℕ) (t : ℕ → ℕ → Float) (d : ℕ → Float) where
   unfolding hOf
   h-known-by i l =
       ap (λ x. sum x (t i) (suc i) (n - suc i))
-      (sum-cong 0·0 (λ j. t i j ⊗ kBefore n t d i j) (λ j. t i j ⊗ kBefore n t d n j) 0 i
-      (λ j g. ap (λ x. t i (0 + j) ⊗ x) (known-by i (0 + j) (rw zero-add g) l)))
+      (sum-same 0·0 0·0 (λ j. t i j ⊗ kBefore n t d i j) (λ j. t i j ⊗ kBefore n t d n j) 0 i refl
+      (λ j m g. ap (λ x. t i j ⊗ x) (known-by i j (omega arith) l)))
 
   -- "a_i = d_i + h_i; k_i = h_i / a_i"
   pub k-is : (i : ℕ) → i < n → kBefore n t d n i ≡ h n t d (kBefore n t d n) i ⊘ a n t d (kBefore n t d n) i

@@ -1,6 +1,6 @@
 -- `margins::solve_margins` meets its contract. Assumes nothing.
 use mathlib.Core.Path.{refl}
-use Rattle.margins.proofs.Loops.{zero-word}
+use Rattle.rounding.proofs.Words.{zero-word}
 use Rattle.elimination.proofs.Vectors.{zero-vector}
 use Rattle.margins.proofs.Solving.{margins-solved}
 use Rattle.margins.proofs.solve_margins.Statement.{statement}

@@ -7,7 +7,7 @@ use native.Mathlib.Omega.{arith}
 use borrow.Author.Needs.{needs}
 use Rattle.definitions.specs.Questions.{leaves}
 use Rattle.sheet.specs.Marks.{Marked}
-use Rattle.sheet.proofs.Bools.{contrary}
+use Rattle.exact.proofs.Bools.{contrary}
 use Rattle.sheet.proofs.Stages.{before, none-marked, first-stage, last-stage, marked-few, at-stage, leave-stage, mark-stage}
 use Rattle.sheet.proofs.exits.Statement.{statement}
 use Rattle.sheet.proofs.exits.Tie as tie

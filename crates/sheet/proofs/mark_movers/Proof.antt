@@ -9,7 +9,7 @@ use borrow.Author.Tests.{not-true, not-false}
 use denote.Ref.{now}
 use Rattle.definitions.specs.Questions.{moves}
 use Rattle.sheet.specs.Marks.{isMarked, Marked}
-use Rattle.sheet.proofs.Bools.{contrary}
+use Rattle.exact.proofs.Bools.{contrary}
 use Rattle.sheet.proofs.Stages.{before, first-stage, last-stage, marked-few, leave-stage, mark-stage}
 use Rattle.sheet.proofs.mark_movers.Statement.{statement}
 use Rattle.sheet.proofs.mark_movers.Tie as tie

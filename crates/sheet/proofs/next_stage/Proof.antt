@@ -8,7 +8,7 @@ use borrow.Author.Count.{below-more}
 use borrow.Author.Tests.{not-true, not-false}
 use lib.ListN.{getD}
 use Rattle.sheet.specs.Marks.{isMarked}
-use Rattle.sheet.proofs.Bools.{contrary}
+use Rattle.exact.proofs.Bools.{contrary}
 use Rattle.sheet.proofs.next_stage.Statement.{statement}
 use Rattle.sheet.proofs.next_stage.Tie as tie
 

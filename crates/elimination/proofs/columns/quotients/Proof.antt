@@ -8,7 +8,7 @@ use Rattle.definitions.specs.Numbers.{all}
 use Rattle.elimination.specs.Places.{table32}
 use Rattle.elimination.specs.Operators.{between, span}
 use Rattle.elimination.specs.Steps.{over, overInRange, dividedRows, quotientsInRange}
-use Rattle.elimination.proofs.Flags.{Gathered, gathered-begins, gathered-turns, gathered-all}
+use Rattle.steps.proofs.Gathering.{Gathered, gathered-begins, gathered-turns, gathered-all}
 use Rattle.elimination.proofs.Loops.{Down, down-begins, down-due, down-turns, down-ends}
 use Rattle.elimination.proofs.RowSteps.{row-over-same}
 use Rattle.elimination.proofs.columns.quotients.Statement.{statement}

@@ -5,7 +5,7 @@ use native.Mathlib.Omega.{arith}
 use borrow.Author.Needs.{needs}
 use Rattle.definitions.specs.LeavingRates.{pivot}
 use Rattle.elimination.specs.Places.{table32}
-use Rattle.elimination.proofs.Flags.{Summed, summed-begins, summed-turns, summed-ends}
+use Rattle.steps.proofs.Gathering.{Summed, summed-begins, summed-turns, summed-ends}
 use Rattle.elimination.proofs.downward.begin.Statement.{statement}
 use Rattle.elimination.proofs.downward.begin.Tie as tie
 

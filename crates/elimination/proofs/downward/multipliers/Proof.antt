@@ -12,7 +12,7 @@ use Rattle.elimination.specs.Told.{RowFinite}
 use Rattle.elimination.specs.ByFours.{Part, multiplierRow, leavingRate}
 use Rattle.elimination.proofs.Loops.{Down, down-begins, down-due, down-else, down-puts, down-ends}
 use Rattle.elimination.proofs.Told.{ToldEach, told-begins, told-turns, told-ends}
-use Rattle.elimination.proofs.RowSteps.{step-same}
+use Rattle.steps.proofs.AddProduct.{step-same}
 use Rattle.elimination.proofs.ByFours.{part-begins, part-turns, part-ends}
 use Rattle.elimination.proofs.downward.multipliers.Statement.{statement}
 use Rattle.elimination.proofs.downward.multipliers.Tie as tie

@@ -7,7 +7,7 @@ use borrow.Author.Needs.{needs}
 use Rattle.rounding.proofs.Steps.{quotient-test}
 use Rattle.elimination.specs.Places.{table32}
 use Rattle.elimination.specs.Steps.{diagonal, overPivot, overPivotInRange, rowMultipliersInRange}
-use Rattle.elimination.proofs.Flags.{Gathered, gathered-begins, gathered-turns, gathered-ends}
+use Rattle.steps.proofs.Gathering.{Gathered, gathered-begins, gathered-turns, gathered-ends}
 use Rattle.elimination.proofs.Loops.{Along, along-begins, along-due, along-turns, along-ends}
 use Rattle.elimination.proofs.RowSteps.{over-pivot, over-pivot-test}
 use Rattle.elimination.proofs.downward.upward_row.Statement.{statement}

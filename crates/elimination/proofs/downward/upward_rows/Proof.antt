@@ -7,7 +7,7 @@ use Rattle.elimination.specs.Places.{table32}
 use Rattle.elimination.specs.Operators.{between, span}
 use Rattle.elimination.specs.Steps.{overPivot, upwardRows, rowMultipliersInRange}
 use Rattle.elimination.proofs.DownwardLaws.{pivots-due, upward-same, upward-tests-same}
-use Rattle.elimination.proofs.Flags.{Gathered, gathered-begins, gathered-turns, gathered-all}
+use Rattle.steps.proofs.Gathering.{Gathered, gathered-begins, gathered-turns, gathered-all}
 use Rattle.elimination.proofs.Loops.{Down, down-begins, down-due, down-turns, down-ends}
 use Rattle.elimination.proofs.downward.upward_rows.Statement.{statement}
 use Rattle.elimination.proofs.downward.upward_rows.Tie as tie

@@ -6,7 +6,7 @@ use native.Mathlib.Omega.{arith}
 use borrow.Author.Needs.{needs}
 use Rattle.elimination.specs.Places.{table32}
 use Rattle.elimination.specs.Told.{productsAt}
-use Rattle.elimination.proofs.Flags.{Gathered, gathered-begins, gathered-turns, gathered-all}
+use Rattle.steps.proofs.Gathering.{Gathered, gathered-begins, gathered-turns, gathered-all}
 use Rattle.elimination.proofs.Multiples.{products-at}
 use Rattle.elimination.proofs.range.descend_products.Statement.{statement}
 use Rattle.elimination.proofs.range.descend_products.Tie as tie

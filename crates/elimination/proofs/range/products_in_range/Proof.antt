@@ -5,7 +5,7 @@ use native.Mathlib.Omega.{arith}
 use borrow.Author.Needs.{needs}
 use Rattle.elimination.specs.Places.{table32}
 use Rattle.elimination.specs.Steps.{timesInRange}
-use Rattle.elimination.proofs.Flags.{Gathered, gathered-begins, gathered-turns, gathered-ends}
+use Rattle.steps.proofs.Gathering.{Gathered, gathered-begins, gathered-turns, gathered-ends}
 use Rattle.elimination.proofs.RowSteps.{times-test}
 use Rattle.elimination.proofs.range.products_in_range.Statement.{statement}
 use Rattle.elimination.proofs.range.products_in_range.Tie as tie

@@ -8,7 +8,7 @@ use borrow.Author.Count.{below-more}
 use borrow.Author.Needs.{needs}
 use Rattle.elimination.specs.Places.{table32}
 use Rattle.elimination.specs.Told.{quickAt}
-use Rattle.elimination.proofs.Flags.{Gathered, gathered-begins, gathered-turns, gathered-ends}
+use Rattle.steps.proofs.Gathering.{Gathered, gathered-begins, gathered-turns, gathered-ends}
 use Rattle.elimination.proofs.Multiples.{quick-at}
 use Rattle.elimination.proofs.range.row_quick.Statement.{statement}
 use Rattle.elimination.proofs.range.row_quick.Tie as tie

@@ -10,7 +10,7 @@ use Rattle.elimination.specs.Operators.{span}
 use Rattle.elimination.specs.Steps.{plusMultiple}
 use Rattle.elimination.specs.ByFours.{summedRow}
 use Rattle.elimination.proofs.Loops.{Along, along-begins, along-due, along-turns, along-ends}
-use Rattle.elimination.proofs.RowSteps.{step-same}
+use Rattle.steps.proofs.AddProduct.{step-same}
 use Rattle.elimination.proofs.row.add_to_one.Statement.{statement}
 use Rattle.elimination.proofs.row.add_to_one.Tie as tie
 

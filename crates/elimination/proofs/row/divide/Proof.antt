@@ -6,7 +6,7 @@ use borrow.Author.Needs.{needs}
 use Rattle.rounding.proofs.Steps.{quotient-test}
 use Rattle.elimination.specs.Places.{table32}
 use Rattle.elimination.specs.Steps.{over, overInRange}
-use Rattle.elimination.proofs.Flags.{Gathered, gathered-begins, gathered-turns, gathered-all}
+use Rattle.steps.proofs.Gathering.{Gathered, gathered-begins, gathered-turns, gathered-all}
 use Rattle.elimination.proofs.Loops.{Along, along-begins, along-due, along-turns, along-ends}
 use Rattle.elimination.proofs.RowSteps.{over-is, over-test}
 use Rattle.elimination.proofs.row.divide.Statement.{statement}

@@ -5,9 +5,9 @@ use native.Mathlib.Omega.{arith}
 use borrow.Author.Needs.{needs}
 use Rattle.definitions.specs.Numbers.{_⊗_, _⊘_, 0·0}
 use Rattle.elimination.specs.Places.{table32}
-use Rattle.elimination.proofs.Flags.{Summed, summed-begins, summed-turns, summed-ends}
+use Rattle.steps.proofs.Gathering.{Summed, summed-begins, summed-turns, summed-ends}
 use Rattle.elimination.specs.Vectors.{vector}
-use Rattle.margins.proofs.Loops.{zero-word}
+use Rattle.rounding.proofs.Words.{zero-word}
 use Rattle.margins.proofs.compact.leaving_rate.Statement.{statement}
 use Rattle.margins.proofs.compact.leaving_rate.Tie as tie
 

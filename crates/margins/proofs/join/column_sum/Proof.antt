@@ -9,7 +9,8 @@ use Rattle.steps.proofs.Sums.{sumWith-none}
 use Rattle.elimination.specs.Places.{table32}
 use Rattle.elimination.specs.Vectors.{vector}
 use Rattle.margins.specs.Join.{knows}
-use Rattle.margins.proofs.Loops.{zero-word, at-end}
+use Rattle.rounding.proofs.Words.{zero-word}
+use Rattle.steps.proofs.Gathering.{at-end}
 use Rattle.margins.proofs.JoinLaws.{with-turns}
 use Rattle.margins.proofs.join.column_sum.Statement.{statement}
 use Rattle.margins.proofs.join.column_sum.Tie as tie

@@ -3,7 +3,7 @@ use borrow.Author.Needs.{needs}
 use mathlib.Core.Path.{ap}
 use Rattle.definitions.specs.Numbers.{_⊘_}
 use Rattle.elimination.specs.Places.{table32}
-use Rattle.margins.proofs.Loops.{one-word}
+use Rattle.rounding.proofs.Words.{one-word}
 use Rattle.margins.proofs.JoinLaws.{row-filled}
 use Rattle.margins.proofs.join.fill_row.Statement.{statement}
 use Rattle.margins.proofs.join.fill_row.Tie as tie

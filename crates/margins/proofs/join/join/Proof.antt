@@ -3,7 +3,7 @@ use borrow.Author.Needs.{needs}
 use Rattle.elimination.specs.Places.{table32}
 use Rattle.margins.specs.Join.{knows}
 use Rattle.elimination.specs.Vectors.{vector}
-use Rattle.margins.proofs.Loops.{zero-word}
+use Rattle.rounding.proofs.Words.{zero-word}
 use Rattle.elimination.proofs.Vectors.{zero-vector}
 use Rattle.margins.proofs.JoinLaws.{joined-whole}
 use Rattle.margins.proofs.join.join.Statement.{statement}

@@ -6,7 +6,7 @@ use native.Mathlib.Omega.{arith}
 use borrow.Author.Needs.{needs}
 use Rattle.definitions.specs.Numbers.{divInRange}
 use Rattle.elimination.specs.Places.{table32}
-use Rattle.elimination.proofs.Flags.{Gathered, gathered-begins, gathered-turns, gathered-all}
+use Rattle.steps.proofs.Gathering.{Gathered, gathered-begins, gathered-turns, gathered-all}
 use Rattle.margins.specs.Join.{knows}
 use Rattle.margins.proofs.join_range.factors_in_range.Statement.{statement}
 use Rattle.margins.proofs.join_range.factors_in_range.Tie as tie

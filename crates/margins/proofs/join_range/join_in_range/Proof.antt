@@ -1,7 +1,7 @@
 -- `margins::join_range::join_in_range` meets its contract. Assumes nothing.
 use borrow.Author.Needs.{needs}
 use Rattle.margins.specs.Join.{joinTest}
-use Rattle.margins.proofs.Loops.{one-word}
+use Rattle.rounding.proofs.Words.{one-word}
 use Rattle.margins.proofs.join_range.join_in_range.Statement.{statement}
 use Rattle.margins.proofs.join_range.join_in_range.Tie as tie
 

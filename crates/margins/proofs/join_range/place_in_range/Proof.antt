@@ -8,10 +8,10 @@ use Rattle.definitions.specs.Numbers.{_⊗_, mulInRange}
 use Rattle.definitions.specs.Margins.{sumWith, sumWithInRange}
 use Rattle.steps.proofs.Sums.{sumWith-none}
 use Rattle.elimination.specs.Places.{table32}
-use Rattle.elimination.proofs.Flags.{Gathered, gathered-begins, gathered-turns, gathered-all}
 use Rattle.elimination.specs.Vectors.{vector}
 use Rattle.margins.specs.Join.{knows, placeInRange}
-use Rattle.margins.proofs.Loops.{zero-word, at-end}
+use Rattle.rounding.proofs.Words.{zero-word}
+use Rattle.steps.proofs.Gathering.{at-end, Gathered, gathered-begins, gathered-turns, gathered-all}
 use Rattle.margins.proofs.JoinLaws.{with-none, with-turns, with-gathered-turns}
 use Rattle.margins.proofs.join_range.place_in_range.Statement.{statement}
 use Rattle.margins.proofs.join_range.place_in_range.Tie as tie

@@ -3,7 +3,7 @@ use borrow.Author.Needs.{needs}
 use lib.Ieee.{ne}
 use Rattle.definitions.specs.Numbers.{isZero}
 use Rattle.margins.specs.Compact.{keeps}
-use Rattle.margins.proofs.Loops.{zero-word}
+use Rattle.rounding.proofs.Words.{zero-word}
 use Rattle.margins.proofs.kept.is_kept.Statement.{statement}
 use Rattle.margins.proofs.kept.is_kept.Tie as tie
 

@@ -5,7 +5,7 @@ use native.Mathlib.Numerals.{add-one}
 use native.Mathlib.Omega.{arith}
 use borrow.Author.Needs.{needs}
 use Rattle.elimination.specs.Places.{table32}
-use Rattle.elimination.proofs.Flags.{Summed, SumGathered, summed-begins, summed-turns, sum-gathered-begins, sum-gathered-turns, sum-gathered-ends}
+use Rattle.steps.proofs.Gathering.{Summed, SumGathered, summed-begins, summed-turns, sum-gathered-begins, sum-gathered-turns, sum-gathered-ends}
 use Rattle.margins.proofs.range.after_in_range.Statement.{statement}
 use Rattle.margins.proofs.range.after_in_range.Tie as tie
 

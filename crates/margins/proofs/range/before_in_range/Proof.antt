@@ -6,10 +6,10 @@ use native.Mathlib.Omega.{arith}
 use borrow.Author.Needs.{needs}
 use Rattle.definitions.specs.Numbers.{_⊗_, 0·0, mulInRange}
 use Rattle.elimination.specs.Places.{table32}
-use Rattle.elimination.proofs.Flags.{Gathered, Summed, SumGathered, gathered-begins, gathered-turns, gathered-all, summed-begins, summed-turns, sum-gathered-begins, sum-gathered-turns}
 use Rattle.elimination.specs.Vectors.{vector}
 use Rattle.margins.specs.Range.{beforeInRange}
-use Rattle.margins.proofs.Loops.{zero-word, sum-gathered-all}
+use Rattle.rounding.proofs.Words.{zero-word}
+use Rattle.steps.proofs.Gathering.{sum-gathered-all, Gathered, Summed, SumGathered, gathered-begins, gathered-turns, gathered-all, summed-begins, summed-turns, sum-gathered-begins, sum-gathered-turns}
 use Rattle.margins.proofs.range.before_in_range.Statement.{statement}
 use Rattle.margins.proofs.range.before_in_range.Tie as tie
 

@@ -7,10 +7,10 @@ use native.Mathlib.Omega.{arith}
 use borrow.Author.Needs.{needs}
 use Rattle.definitions.specs.Numbers.{_⊗_, _⊘_, 0·0, mulInRange, divInRange}
 use Rattle.elimination.specs.Places.{table32}
-use Rattle.elimination.proofs.Flags.{Gathered, Summed, SumGathered, gathered-begins, gathered-turns, gathered-ends, summed-begins, summed-turns, sum-gathered-begins, sum-gathered-turns, sum-gathered-ends}
+use Rattle.steps.proofs.Gathering.{Gathered, Summed, SumGathered, gathered-begins, gathered-turns, gathered-ends, summed-begins, summed-turns, sum-gathered-begins, sum-gathered-turns, sum-gathered-ends}
 use Rattle.elimination.specs.Vectors.{vector}
 use Rattle.margins.specs.Range.{rateInRange}
-use Rattle.margins.proofs.Loops.{zero-word}
+use Rattle.rounding.proofs.Words.{zero-word}
 use Rattle.margins.proofs.range.rate_in_range.Statement.{statement}
 use Rattle.margins.proofs.range.rate_in_range.Tie as tie
 

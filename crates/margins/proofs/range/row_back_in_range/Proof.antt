@@ -5,7 +5,7 @@ use native.Mathlib.Omega.{arith}
 use borrow.Author.Needs.{needs}
 use Rattle.definitions.specs.Numbers.{mulInRange}
 use Rattle.elimination.specs.Places.{table32}
-use Rattle.elimination.proofs.Flags.{Gathered, gathered-begins, gathered-turns, gathered-all}
+use Rattle.steps.proofs.Gathering.{Gathered, gathered-begins, gathered-turns, gathered-all}
 use Rattle.margins.proofs.range.row_back_in_range.Statement.{statement}
 use Rattle.margins.proofs.range.row_back_in_range.Tie as tie
 

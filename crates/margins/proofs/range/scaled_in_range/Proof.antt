@@ -6,7 +6,7 @@ use native.Mathlib.Omega.{arith}
 use borrow.Author.Needs.{needs}
 use Rattle.definitions.specs.Numbers.{all}
 use Rattle.elimination.specs.Places.{table32}
-use Rattle.elimination.proofs.Flags.{Gathered, gathered-begins, gathered-turns, gathered-all}
+use Rattle.steps.proofs.Gathering.{Gathered, gathered-begins, gathered-turns, gathered-all}
 use Rattle.elimination.specs.Vectors.{vector}
 use Rattle.margins.specs.Compact.{stageAt}
 use Rattle.margins.specs.Range.{sizeInRange, rateInRange}

@@ -5,7 +5,7 @@ use native.Mathlib.Numerals.{add-one}
 use native.Mathlib.Omega.{arith}
 use borrow.Author.Needs.{needs}
 use Rattle.elimination.specs.Places.{table32}
-use Rattle.elimination.proofs.Flags.{Summed, summed-begins, summed-turns, summed-ends}
+use Rattle.steps.proofs.Gathering.{Summed, summed-begins, summed-turns, summed-ends}
 use Rattle.margins.proofs.ratios.sum_after.Statement.{statement}
 use Rattle.margins.proofs.ratios.sum_after.Tie as tie
 

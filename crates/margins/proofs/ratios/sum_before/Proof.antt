@@ -5,9 +5,9 @@ use native.Mathlib.Omega.{arith}
 use borrow.Author.Needs.{needs}
 use Rattle.definitions.specs.Numbers.{_⊗_, 0·0}
 use Rattle.elimination.specs.Places.{table32}
-use Rattle.elimination.proofs.Flags.{Summed, summed-begins, summed-turns}
 use Rattle.elimination.specs.Vectors.{vector}
-use Rattle.margins.proofs.Loops.{zero-word, summed-all}
+use Rattle.rounding.proofs.Words.{zero-word}
+use Rattle.steps.proofs.Gathering.{summed-all, Summed, summed-begins, summed-turns}
 use Rattle.margins.proofs.ratios.sum_before.Statement.{statement}
 use Rattle.margins.proofs.ratios.sum_before.Tie as tie
 

@@ -13,20 +13,13 @@ use borrow.Author.Tests.{eq-eqb, lt-leb, le-leb}
 use Rattle.definitions.specs.Numbers.{_⊕_, _⊗_, _⊘_, 0·0, 1·0, isZero, addInRange, mulInRange, divInRange, sum, sumInRange, all}
 use Rattle.definitions.specs.LeavingRates.{downward, quotient, inRange}
 use Rattle.definitions.specs.Margins.{stagesWith, rank, sumWithInRange, kBefore, h, a, kept, keptSystem, y, known, xAfter, ratioInRange, scaledInRange, backInRange, joinInRange, everyStep, entry, marginsInRange}
-use Rattle.steps.proofs.Sums.{sum-cong}
 use Rattle.steps.proofs.Compact.{listed, rank-below}
 use Rattle.steps.proofs.Margins.{k-is, h-is, a-is, kept-is, kept-size, kept-exit, y-is, x-start, x-kept, join-corner, join-row, join-column, join-other, known-is}
-use Rattle.elimination.proofs.Cases.{by-equal, by-order}
-use Rattle.elimination.proofs.Flags.{all-same}
-use Rattle.elimination.proofs.Same.{Same, same-quotient, same-in-range}
-use Rattle.margins.proofs.Conditions.{by-bool, if-same, all-below, sumInRange-same, sumWith-same, sumWithInRange-same}
-
--- Sums of equal terms, by the terms' own indices.
-sum-same : (x y : Float) (f g : ℕ → Float) (lo m : ℕ) → x ≡ y → ((i : ℕ) → lo ≤ i → i < lo + m → f i ≡ g i) → sum x f lo m ≡ sum y g lo m
-sum-same x y f g lo m e h = ap (λ z. sum z f lo m) e ∙ sum-cong y f g lo m (λ j l. h (lo + j) (omega arith) (omega arith))
-
-sum-in-range-same : (x y : Float) (f g : ℕ → Float) (lo m : ℕ) → x ≡ y → ((i : ℕ) → lo ≤ i → i < lo + m → f i ≡ g i) → sumInRange x f lo m ≡ sumInRange y g lo m
-sum-in-range-same x y f g lo m e h = sumInRange-same f g lo m e (λ j l. h (lo + j) (omega arith) (omega arith))
+use Rattle.exact.proofs.Cases.{by-equal, by-order, by-bool}
+use Rattle.steps.proofs.Same.{Same, same-quotient, same-in-range}
+use Rattle.exact.proofs.Bools.{if-same, or-true}
+use Rattle.steps.proofs.All.{all-below, all-same}
+use Rattle.steps.proofs.Sums.{sum-same, sum-in-range-same, sumWith-same, sumWithInRange-same}
 
 stages-same : (test other : ℕ → Bool) (n : ℕ) → ((i : ℕ) → i < n → test i ≡ other i) → stagesWith test n ≡ stagesWith other n
 unfolding stagesWith
@@ -36,10 +29,6 @@ stages-same test other (suc n) e = ap₂ (λ (xs : List ℕ) (b : Bool). xs ++ c
 rank-same : (test other : ℕ → Bool) (n : ℕ) → ((i : ℕ) → i < n → test i ≡ other i) → rank test n ≡ rank other n
 unfolding rank
 rank-same test other n e = ap length (stages-same test other n e)
-
-or-true : (x : Bool) → (x || true) ≡ true
-or-true true = refl
-or-true false = refl
 
 or-left : (x y : Bool) → y ≡ false → (x || y) ≡ true → x ≡ true
 or-left true y f w = refl

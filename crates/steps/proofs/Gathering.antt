@@ -1,52 +1,11 @@
--- The laws of `all`, `sum` and `sumInRange`, and the invariant of a loop that gathers a test.
-use mathlib.Core.Path.{_≡_, refl, ap₂}
-use Prim.Native.Nat.{ℕ, zero, suc, _+_, _-_, _≤_, _<_}
+-- Loops that gather a test, a sum, or the tests of a sum's additions: their invariants, and what a turn does to each.
+use mathlib.Core.Path.{_≡_, ap, _∙_}
+use Prim.Native.Nat.{ℕ, suc, _+_, _-_, _≤_, _<_}
 use native.Mathlib.Nat.{le-refl, le-antisymm, sub-zero}
 use native.Mathlib.Omega.{arith}
-use mathlib.Core.Bool.{Bool, true, false, _&&_}
-use lib.Dec.{T}
+use mathlib.Core.Bool.{Bool, true, _&&_}
 use lib.Ieee.{Float}
 use Rattle.definitions.specs.Numbers.{_⊕_, addInRange, sum, sumInRange, all}
-use Rattle.elimination.proofs.Cases.{by-equal}
-
--- Two tests with the same truth are equal.
-pub same-truth : (a b : Bool) → (T a → T b) → (T b → T a) → a ≡ b
-same-truth true true f g = refl
-same-truth true false f g = absurd (f tt)
-same-truth false true f g = absurd (g tt)
-same-truth false false f g = refl
-
-pub both : (a b : Bool) → T a → T b → T (a && b)
-both true b p q = q
-both false b p q = absurd p
-
-pub both-left : (a b : Bool) → T (a && b) → T a
-both-left true b p = tt
-both-left false b p = absurd p
-
-pub both-right : (a b : Bool) → T (a && b) → T b
-both-right true b p = p
-both-right false b p = absurd p
-
-module _ (p : ℕ → Bool) (lo : ℕ) where
-  -- What holds of all holds of each, and the other way round.
-  pub each : (m i : ℕ) → T (all p lo m) → lo ≤ i → i < lo + m → T (p i)
-  unfolding all
-  each zero i t l h = let z : ⊥ = omega arith in absurd z
-  each (suc m) i t l h =
-      by-equal i (lo + m)
-      (λ e. rw e (both-right (all p lo m) (p (lo + m)) t))
-      (λ n. each m i (both-left (all p lo m) (p (lo + m)) t) l (omega arith))
-
-  pub every : (m : ℕ) → ((i : ℕ) → lo ≤ i → i < lo + m → T (p i)) → T (all p lo m)
-  unfolding all
-  every zero f = tt
-  every (suc m) f = both (all p lo m) (p (lo + m)) (every m (λ i l h. f i l (omega arith))) (f (lo + m) (omega arith) (omega arith))
-
-pub all-same : (p q : ℕ → Bool) (lo m : ℕ) → ((i : ℕ) → lo ≤ i → i < lo + m → p i ≡ q i) → all p lo m ≡ all q lo m
-unfolding all
-all-same p q lo zero f = refl
-all-same p q lo (suc m) f = ap₂ (λ a b. a && b) (all-same p q lo m (λ i l h. f i l (omega arith))) (f (lo + m) (omega arith) (omega arith))
 
 -- A loop from lo that gathers p: the turns before j are done.
 pub record Gathered (p : ℕ → Bool) (lo j : ℕ) (ok : Bool) : Type 0 where
@@ -110,3 +69,15 @@ module _ {start : Float} {f : ℕ → Float} {lo : ℕ} where
 
 pub sum-gathered-ends : {start : Float} {f : ℕ → Float} {lo j hi : ℕ} {ok : Bool} → SumGathered start f lo j ok → j ≤ hi → hi ≤ j → ok ≡ sumInRange start f lo (hi - lo)
 sum-gathered-ends g l m = rw (le-antisymm l m) at (g .is)
+
+-- From 0 on.
+module _ {start : Float} {f : ℕ → Float} {j hi : ℕ} where
+  pub summed-all : {x : Float} → Summed start f 0 j x → j ≤ hi → hi ≤ j → x ≡ sum start f 0 hi
+  summed-all h l m = rw (sub-zero hi) at (summed-ends h l m)
+
+  pub sum-gathered-all : {ok : Bool} → SumGathered start f 0 j ok → j ≤ hi → hi ≤ j → ok ≡ sumInRange start f 0 hi
+  sum-gathered-all g l m = rw (sub-zero hi) at (sum-gathered-ends g l m)
+
+-- What holds at the counter holds at the bound that it has reached.
+pub at-end : {A : Type 0} (g : ℕ → A) {x : A} {l n : ℕ} → x ≡ g l → l ≤ n → n ≤ l → x ≡ g n
+at-end g e l m = e ∙ ap g (le-antisymm l m)

@@ -8,23 +8,12 @@ use lib.Ieee.{Float}
 use borrow.Author.Tests.{eq-eqb, le-leb, lt-leb}
 use Rattle.definitions.specs.Numbers.{_⊕_, _⊗_, _⊘_, 0·0, addInRange, divInRange, addProductInRange, sum, sumInRange, all}
 use Rattle.definitions.specs.LeavingRates.{System, pivot, multiplier, eliminate, begun, downward, p, u, m↓, m↑, b↓, b↑, solved, quotient, rowInRange, stageInRange, sharedBefore, shared, columnBefore, columnUpward, column, inRange}
-use Rattle.elimination.proofs.Cases.{by-equal, by-order}
-use Rattle.elimination.proofs.Flags.{all-same}
-use Rattle.elimination.proofs.RowSteps.{step-same, step-test-same}
+use Rattle.exact.proofs.Cases.{by-equal, by-order}
+use Rattle.steps.proofs.All.{all-same}
+use Rattle.steps.proofs.AddProduct.{step-same, step-test-same}
 use Rattle.steps.proofs.Tables.{stored-at, storedTable-at}
+use Rattle.steps.proofs.Sums.{sum-same, sum-in-range-same}
 use Rattle.steps.proofs.LeavingRates.{begun-at, column-start, column-before, column-step, upward-start, upward-step}
-
-sum-same : (x y : Float) (f g : ℕ → Float) (lo m : ℕ) → x ≡ y → ((i : ℕ) → lo ≤ i → i < lo + m → f i ≡ g i) → sum x f lo m ≡ sum y g lo m
-unfolding sum
-sum-same x y f g lo zero e h = e
-sum-same x y f g lo (suc m) e h = ap₂ (λ a b. a ⊕ b) (sum-same x y f g lo m e (λ i l k. h i l (omega arith))) (h (lo + m) (omega arith) (omega arith))
-
-sum-in-range-same : (x y : Float) (f g : ℕ → Float) (lo m : ℕ) → x ≡ y → ((i : ℕ) → lo ≤ i → i < lo + m → f i ≡ g i) → sumInRange x f lo m ≡ sumInRange y g lo m
-unfolding sumInRange
-sum-in-range-same x y f g lo zero e h = refl
-sum-in-range-same x y f g lo (suc m) e h =
-    ap₂ (λ a b. a && b) (sum-in-range-same x y f g lo m e (λ i l k. h i l (omega arith)))
-    (ap₂ addInRange (sum-same x y f g lo m e (λ i l k. h i l (omega arith))) (h (lo + m) (omega arith) (omega arith)))
 
 -- The rows and columns from k on agree.
 pub record Same (r k : ℕ) (a b : System) : Type 0 where

@@ -1,13 +1,9 @@
--- Two numbers are equal or not, and one is at most the other or above it; and a law of `&&`.
+-- Cases: two numbers are equal or not, one is at most the other or above it, a test holds or not.
 use mathlib.Core.Path.{_≡_, refl}
-use mathlib.Core.Bool.{Bool, true, false, _&&_}
+use mathlib.Core.Bool.{Bool, true, false}
 use Prim.Native.Nat.{ℕ, _≤_, _<_}
 use native.Mathlib.Decide.{decLe, ℕ-discrete}
 use native.Mathlib.Nat.{lt-of-not-le}
-
-pub and-false : (b : Bool) → (b && false) ≡ false
-and-false true = refl
-and-false false = refl
 
 module _ {P : Type 0} where
   pub by-equal : (a b : ℕ) → (a ≡ b → P) → ((a ≡ b → ⊥) → P) → P
@@ -23,3 +19,7 @@ module _ {P : Type 0} where
       go : Dec (a ≤ b) → P
       go (yes h) = low h
       go (no n) = high (lt-of-not-le n)
+
+  pub by-bool : (b : Bool) → (b ≡ true → P) → (b ≡ false → P) → P
+  by-bool true holds fails = holds refl
+  by-bool false holds fails = fails refl

@@ -1,0 +1,80 @@
+-- Laws of tests. The kit's `lib.Ieee.Fits` has and-i, and-l and and-r: a conjunction from its parts, and each part from it.
+use mathlib.Core.Path.{_≡_, refl}
+use mathlib.Core.Logic.{_⊎_, inl, inr}
+use mathlib.Core.Bool.{Bool, true, false, not, _&&_, _||_}
+use Prim.Native.Nat.{ℕ}
+use native.Mathlib.Omega.{arith}
+use lib.Dec.{T}
+use Rattle.exact.proofs.Cases.{by-bool}
+
+-- ---- truth and value
+pub is-true : (a : Bool) → T a → a ≡ true
+is-true true t = refl
+is-true false t = absurd t
+
+pub holds : {a : Bool} → a ≡ true → T a
+holds e = rw e tt
+
+pub contrary : (a : Bool) → a ≡ true → a ≡ false → ⊥
+contrary true t f = let z : _≡_ {A = ℕ} 0 1 = cc in omega arith
+contrary false t f = let z : _≡_ {A = ℕ} 0 1 = cc in omega arith
+
+-- Two tests with the same truth are equal.
+pub same-truth : (a b : Bool) → (T a → T b) → (T b → T a) → a ≡ b
+same-truth true true f g = refl
+same-truth true false f g = absurd (f tt)
+same-truth false true f g = absurd (g tt)
+same-truth false false f g = refl
+
+-- ---- a or b
+pub or-l : (a b : Bool) → T a → T (a || b)
+or-l true b t = tt
+or-l false b t = absurd t
+
+pub or-r : (a b : Bool) → T b → T (a || b)
+or-r true b t = tt
+or-r false b t = t
+
+pub or-cases : (a b : Bool) → T (a || b) → T a ⊎ T b
+or-cases true b t = inl tt
+or-cases false b t = inr t
+
+pub or-not : (a b : Bool) → (T a → ⊥) → T (a || b) → T b
+or-not true b n t = absurd (n tt)
+or-not false b n t = t
+
+-- ---- x where a holds: not a or x
+pub if-in : (a x : Bool) → (a ≡ true → T x) → T (not a || x)
+if-in true x h = h refl
+if-in false x h = tt
+
+pub if-out : (a x : Bool) → T (not a || x) → a ≡ true → T x
+if-out a x t e = rw e at t
+
+pub if-same : {a b x y : Bool} → a ≡ b → (b ≡ true → x ≡ y) → (not a || x) ≡ (not b || y)
+if-same {a} {b} {x} {y} e h = rw e (by-bool b (λ t. rw t (h t)) (λ t. rw t))
+
+-- ---- equations
+pub and-true : (a : Bool) → (a && true) ≡ a
+and-true true = refl
+and-true false = refl
+
+pub and-false : (a : Bool) → (a && false) ≡ false
+and-false true = refl
+and-false false = refl
+
+pub or-true : (a : Bool) → (a || true) ≡ true
+or-true true = refl
+or-true false = refl
+
+pub or-false : (a : Bool) → (a || false) ≡ a
+or-false true = refl
+or-false false = refl
+
+pub and-assoc : (a b c : Bool) → (a && (b && c)) ≡ (a && b && c)
+and-assoc true b c = refl
+and-assoc false b c = refl
+
+pub or-assoc : (a b c : Bool) → (a || (b || c)) ≡ (a || b || c)
+or-assoc true b c = refl
+or-assoc false b c = refl
