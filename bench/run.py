@@ -1,11 +1,12 @@
 #!/usr/bin/env python3
 """Times and errors of the proved table beside plain C and LAPACK, in one run on one machine.
 
-    python3 bench/run.py [--quick] [--no-errors] [--sizes 2,4,8]
+    python3 bench/run.py [--quick] [--no-errors] [--sizes 2,4,8] [--against libhosts.a]
 
 builds the proved library (`rt staticlib hosts`), bench/steps.c and bench/time.c into target/bench, checks
-that all give the same bits and decisions, and prints three tables.  Standard library only; nothing is
-installed.  Exit status 1 if bits or decisions differ, or an error is above its allowance.
+that all give the same bits and decisions, and prints three tables.  With --against the library of another
+commit runs beside it, and the first table has the ratios.  Standard library only; nothing is installed.
+Exit status 1 if bits or decisions differ, or an error is above its allowance.
 """
 from __future__ import annotations
 
@@ -33,8 +34,8 @@ SIZES = [2, 3, 4, 8, 12, 16, 24, 32]
 COMMON = ["-std=c11", "-Wall", "-Wextra", "-ffp-contract=off"]
 VARIANTS = {"plain_O3": ["-O3"], "plain_O2": ["-O2"], "checked_O3": ["-O3", "-DCHECKED"],
             "checked_O2": ["-O2", "-DCHECKED"], "plain_native": ["-O3", "-march=native"]}
-OURS, UNCHECKED, CHECKED, LAPACK = "yulanbowls", "C -O3", "checked C -O3", "LAPACK"
-DECIDES = ["yulanbowls", "checked C -O3", "checked C -O2"]
+OURS, OTHER, UNCHECKED, CHECKED, LAPACK = "yulanbowls", "other library", "C -O3", "checked C -O3", "LAPACK"
+DECIDES = [OURS, OTHER, "checked C -O3", "checked C -O2"]
 UNIT = 2.0 ** -53
 
 failures: list[str] = []
@@ -74,11 +75,20 @@ def build_library() -> None:
         sys.exit(f"bench: no rt on the path and no {ARCHIVE}")
 
 
-def build() -> Path:
+def renamed(archive: Path) -> Path:
+    """Another library as one object that shows its table alone, as other_table."""
+    one = BUILD / "other.o"
+    run(["ld", "-r", "--whole-archive", archive, "-o", one])
+    run(["objcopy", "--keep-global-symbol=yulanbowls_table", one])
+    run(["objcopy", "--redefine-sym", "yulanbowls_table=other_table", one])
+    return one
+
+
+def build(other: Optional[Path]) -> Path:
     """The program of time.c with every candidate in it."""
     BUILD.mkdir(parents=True, exist_ok=True)
     build_library()
-    objects = []
+    objects = [renamed(other)] if other else []
     for suffix, flags in VARIANTS.items():
         objects.append(BUILD / f"steps_{suffix}.o")
         run(["cc", *COMMON, *flags, f"-DSUFFIX={suffix}", "-c", ROOT / "bench" / "steps.c", "-o", objects[-1]])
@@ -87,7 +97,7 @@ def build() -> Path:
         print("No OpenBLAS here, so LAPACK's rows are left out. On Debian this installs it:\n"
               "    apt-get install libopenblas-dev\n")
     program = BUILD / "time"
-    run(["cc", *COMMON, "-O2", *(["-DLAPACK"] if lapack else []), "-I", ROOT / "include",
+    run(["cc", *COMMON, "-O2", *(["-DLAPACK"] if lapack else []), *(["-DOTHER"] if other else []), "-I", ROOT / "include",
          ROOT / "bench" / "time.c", *objects, ARCHIVE, *(["-lopenblas"] if lapack else []), "-o", program])
     return program
 
@@ -145,8 +155,7 @@ def run_groups(program: Path, groups: Sequence[Group]) -> tuple[str, list[dict[s
     results: list[dict[str, Result]] = []
     for group in groups:
         found: dict[str, Result] = {}
-        takes_part = 1 + (lapack != "none") + (len(VARIANTS) if group.reading == 1 else 0)
-        for _ in range(takes_part):
+        for _ in range(int(next(lines))):
             name, nanoseconds = next(lines).split("\t")
             answers = [parsed_answer(name, group.n, next(lines)) for _ in group.sheets]
             found[name] = Result(float(nanoseconds), answers)
@@ -286,11 +295,14 @@ def part_times(program: Path, sizes: Sequence[int], batches: int) -> None:
           "for information. LAPACK: OpenBLAS dgetrf + dgetri with the copy of A into place; A is formed before.\n\n"
           "Reading 1, leaving rates: four dense sheets for each n.\n")
     count = len(sizes)
-    print_times(sizes, times[:count], [LAPACK, UNCHECKED])
+    print_times(sizes, times[:count], [LAPACK, UNCHECKED, OTHER])
     print("Reading 2, margins: four dense sheets for each n; in the last row every second stage is not kept.\n")
     both = [{**found, OURS + ", half kept": other[OURS]}
             for found, other in zip(times[count:2 * count], times[2 * count:])]
-    print_times(sizes, both, [LAPACK])
+    print_times(sizes, both, [LAPACK, OTHER])
+    if OTHER in times[0]:
+        print("The same with every second stage not kept.\n")
+        print_times(sizes, [{name: found[name] for name in (OURS, OTHER)} for found in times[2 * count:]], [OTHER])
 
 
 # ==== 2. The slow path ====
@@ -453,6 +465,7 @@ def parsed(arguments: Sequence[str]) -> argparse.Namespace:
     parser.add_argument("--quick", action="store_true", help="few batches and small sheets, for a test")
     parser.add_argument("--no-errors", action="store_true", help="leave out the table of errors")
     parser.add_argument("--sizes", default=None, metavar="N,N,..", help="the sizes of the first table")
+    parser.add_argument("--against", type=Path, default=None, metavar="ARCHIVE", help="another commit's libhosts.a")
     options = parser.parse_args(arguments)
     try:
         options.sizes = [int(n) for n in options.sizes.split(",")] if options.sizes else SIZES
@@ -466,7 +479,7 @@ def parsed(arguments: Sequence[str]) -> argparse.Namespace:
 def main(arguments: Sequence[str]) -> int:
     """Builds, checks, prints; the exit status."""
     options = parsed(arguments)
-    program = build()
+    program = build(options.against)
     batches = 50 if options.quick else 2000
     part_times(program, options.sizes, batches)
     part_slow_path(program, [8, 32], batches // 5)

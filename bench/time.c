@@ -3,9 +3,9 @@
 
    Input, in 8-byte words, group after group: reading, n, how many sheets, how many batches, the sheets
    row by row, then for each sheet its matrix A column by column. Output: a line with OpenBLAS's build and
-   kernels, or "none"; then for each group and each of its candidates a line with the name, a tab and the
-   nanoseconds for one table (0 without batches), and a line for each sheet: 0 or the number of the refusal,
-   and the n × n words of the answer in hexadecimal. */
+   kernels, or "none"; then for each group a line with the number of its candidates, and for each of them a
+   line with the name, a tab and the nanoseconds for one table (0 without batches), and a line for each sheet:
+   0 or the number of the refusal, and the n × n words of the answer in hexadecimal. */
 #define _POSIX_C_SOURCE 200809L
 #include <stdint.h>
 #include <stdio.h>
@@ -43,6 +43,18 @@ static size_t proved(const struct group *g, size_t at, double *answer)
     return yulanbowls_table(g->reading, g->n, sheet_of(g, at), places, answer, places, &allowance, &row, &column);
 }
 
+#ifdef OTHER
+/* The library of another commit, under another name. */
+size_t other_table(size_t reading, size_t n, const double *sheet, size_t sheet_len, double *answer, size_t answer_len,
+                   size_t *allowance, size_t *row, size_t *column);
+
+static size_t other(const struct group *g, size_t at, double *answer)
+{
+    size_t allowance, row, column, places = g->n * g->n;
+    return other_table(g->reading, g->n, sheet_of(g, at), places, answer, places, &allowance, &row, &column);
+}
+#endif
+
 #define STEPS(suffix)                                                                        \
     int steps_##suffix(size_t n, const double *sheet, double *answer);                       \
     static size_t table_##suffix(const struct group *g, size_t at, double *answer)           \
@@ -79,6 +91,9 @@ static size_t lapack(const struct group *g, size_t at, double *answer)
 
 static const struct candidate candidates[] = {
     {"yulanbowls", proved, 1},
+#ifdef OTHER
+    {"other library", other, 1},
+#endif
     {"C -O3", table_plain_O3, 0},
     {"C -O2", table_plain_O2, 0},
     {"checked C -O3", table_checked_O3, 0},
@@ -175,6 +190,10 @@ static void print_answers(const struct group *g, size_t c)
 
 static void print_group(const struct group *g)
 {
+    int many = 0;
+    for (size_t c = 0; c < CANDIDATES; c++)
+        many += takes_part(g, c);
+    printf("%d\n", many);
     for (size_t c = 0; c < CANDIDATES; c++)
         if (takes_part(g, c)) {
             printf("%s\t%.3f\n", candidates[c].name, g->batches > 0 ? g->best[c] : 0.0);
