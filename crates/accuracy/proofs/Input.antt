@@ -1,18 +1,19 @@
 -- What the questions leave: an accepted sheet has good sizes and good diagonals; under reading 1 it gets out, under reading 2 its
 -- diagonals are positive.
 use Prim.Native.Nat.{ℕ, zero, suc, _+_, _*_, _<_}
-use mathlib.Core.Bool.{Bool, true, false, not, _||_, cond}
+use mathlib.Core.Bool.{Bool, true, false, not, cond}
 use mathlib.Core.List.{List}
-use mathlib.Core.Path.{_≡_}
+use mathlib.Core.Path.{_≡_, refl}
 use mathlib.Core.Logic.{_≢_}
 use native.Mathlib.Omega.{arith}
-use lib.Dec.{T, eqb, ltb, eqb→eq, eqb-refl, not-T, lt→ltb, ltb→lt}
+use lib.Dec.{T, eqb, ltb, lt→ltb, ltb→lt}
 use lib.ListN.{length}
 use lib.Ieee.{Float, nan, inf, fin, binary64, fits, lt, le, eq}
-use lib.Ieee.Bits.{is-true, is-false}
+use borrow.Author.Tests.{eq-eqb, ne-eqb}
 use lib.Ieee.Fits.{and-r}
-use Rattle.exact.specs.Chains.{In, WithinDecidesChains}
-use Rattle.exact.proofs.Chains.{gets-out-mono, within-decides-chains}
+use Rattle.exact.specs.Chains.{In}
+use Rattle.exact.proofs.Chains.{gets-out-mono}
+use Rattle.exact.proofs.Bools.{or-l}
 use Rattle.definitions.specs.Numbers.{0·0, finite, isZero, units}
 use Rattle.definitions.specs.Sheet.{place, size, diagonal, system}
 use Rattle.definitions.specs.Accuracy.{Binary64}
@@ -22,8 +23,10 @@ use Rattle.rounding.proofs.Laws.{zero-is-good, units-zero, is-zero}
 use Rattle.rounding.proofs.Order.{lt-units}
 use Rattle.rounding.proofs.Reversed.{le-not-above}
 use Rattle.rounding.proofs.Zeros.{IsSize, plus-zero, size-of-negative, size-of-positive}
-use Rattle.steps.proofs.Questions.{then-first, then-next, rows-yes, stages-yes}
-use Rattle.accuracy.specs.LeavingRates.{GoodSystem, StagesGetOut}
+use Rattle.steps.proofs.Trapped.{out-decided}
+use Rattle.steps.proofs.Sizes.{size-at, diagonal-at}
+use Rattle.steps.proofs.QuestionLaws.{then-first, then-next, rows-yes, stages-yes}
+use Rattle.accuracy.specs.LeavingRatesAccuracy.{GoodSystem, StagesGetOut}
 
 -- The questions of the numbers come last, whichever service asks.
 after-four : (a b c d x : Asked) → (a then b then c then d then x) ≡ pass → x ≡ pass
@@ -44,11 +47,7 @@ entry-numbers reading n sheet i j =
 
 less-or-equal : (x y : Float) → T (lt x y) → T (le x y)
 unfolding le
-less-or-equal x y = left (lt x y) (eq x y)
-  where
-    left : (a b : Bool) → T a → T (a || b)
-    left true b t = tt
-    left false b t = absurd t
+less-or-equal x y = or-l (lt x y) (eq x y)
 
 positive-good : (x : Float) → T (fits binary64 x) → T (finite x) → T (lt 0·0 x) → Good x
 unfolding finite lt
@@ -85,21 +84,22 @@ module _ (reading n : ℕ) (sheet : List Float) (fit : Binary64 sheet) (e : numb
       (then-next (question7 reading n sheet) (question8 n sheet then question9 reading n sheet) after-finite)
 
   pub size-is : (i j : ℕ) → i < n → j < n → i ≢ j → IsSize (place n sheet i j) (size n sheet i j)
-  unfolding rightSign size Binary64
+  unfolding rightSign Binary64
   size-is i j hi hj d =
-      let off : eqb i j ≡ false = is-false (eqb i j) (not-T (eqb i j) (λ t. d (eqb→eq i j t))) in
-      size-of-negative (place n sheet i j) (fit (i * n + j)) (number-finite i j hi hj)
-      (le-not-above (place n sheet i j) 0·0 (rw off at (number-sign i j hi hj)))
+      rw (size-at n sheet i j hi hj d)
+      (size-of-negative (place n sheet i j) (fit (i * n + j)) (number-finite i j hi hj)
+      (le-not-above (place n sheet i j) 0·0 (rw (ne-eqb i j d) at (number-sign i j hi hj))))
 
   diagonal-sign : (i : ℕ) → i < n → T (cond (eqb reading 1) (le 0·0 (place n sheet i i)) (lt 0·0 (place n sheet i i)))
   unfolding rightSign
-  diagonal-sign i h = rw (is-true (eqb i i) (eqb-refl i)) at (number-sign i i h h)
+  diagonal-sign i h = rw (eq-eqb i i refl) at (number-sign i i h h)
 
   pub diagonal-is : (i : ℕ) → i < n → IsSize (place n sheet i i) (diagonal n sheet i)
-  unfolding diagonal Binary64
+  unfolding Binary64
   diagonal-is i h =
-      size-of-positive (place n sheet i i) (fit (i * n + i)) (number-finite i i h h)
-      (le-not-above 0·0 (place n sheet i i) (either (eqb reading 1) (diagonal-sign i h)))
+      rw (diagonal-at n sheet i h)
+      (size-of-positive (place n sheet i i) (fit (i * n + i)) (number-finite i i h h)
+      (le-not-above 0·0 (place n sheet i i) (either (eqb reading 1) (diagonal-sign i h))))
     where
       either : (c : Bool) → T (cond c (le 0·0 (place n sheet i i)) (lt 0·0 (place n sheet i i))) → T (le 0·0 (place n sheet i i))
       either true t = t
@@ -117,12 +117,12 @@ module _ (reading n : ℕ) (sheet : List Float) (fit : Binary64 sheet) (e : numb
 pub input-positive :
     (n : ℕ) (sheet : List Float) → Binary64 sheet → numberQuestions 2 n sheet ≡ pass
     → (i : ℕ) → i < n → 0 < units (diagonal n sheet i)
-unfolding diagonal Binary64
+unfolding Binary64
 input-positive n sheet fit e i h =
     let x = place n sheet i i in
     let l : T (lt 0·0 x) = diagonal-sign 2 n sheet fit e i h in
     let g = positive-good x (fit (i * n + i)) (number-finite 2 n sheet fit e i i h h) l in
-    rw (plus-zero g) (ltb→lt 0 (units x) (rw (lt-units zero-is-good g, units-zero) at l))
+    rw (diagonal-at n sheet i h, plus-zero g) (ltb→lt 0 (units x) (rw (lt-units zero-is-good g, units-zero) at l))
 
 -- Reading 1: chains of moves are chains of nonzero sizes, so the system gets out.
 module _ (n : ℕ) (sheet : List Float) (fit : Binary64 sheet) (e : numberQuestions 1 n sheet ≡ pass) where
@@ -138,12 +138,11 @@ module _ (n : ℕ) (sheet : List Float) (fit : Binary64 sheet) (e : numberQuesti
   exit-kept i h t = rw (lt-units zero-is-good (diagonal-is 1 n sheet fit e i (omega arith) .good), units-zero) at t
 
   pub input-out : StagesGetOut zero n (system n sheet)
-  unfolding system question9 getsOut WithinDecidesChains
+  unfolding system question9
   input-out =
       let asked = stages-yes (getsOut n sheet) 9 n (last-question 1 n sheet fit e) in
       record {
         out =
             λ i l.
-            gets-out-mono move-kept exit-kept l
-            (within-decides-chains zero n (moves n sheet) (leaves n sheet) i l .0 (asked i (omega arith)));
+            gets-out-mono move-kept exit-kept l (out-decided n sheet i (omega arith) .0 (asked i (omega arith)));
       }

@@ -3,7 +3,7 @@ use mathlib.Core.Path.{_≡_, refl, ap, subst}
 use mathlib.Core.Bool.{Bool, true, false, not, cond}
 use Prim.Native.Nat.{ℕ, zero, suc, _+_, _*_, _-_, _≤_, _<_}
 use native.Mathlib.Omega.{arith}
-use lib.Dec.{T, ltb, ltb→lt, nltb→le, leb→le, le→leb}
+use lib.Dec.{T, ltb, ltb→lt, nltb→le, le→leb}
 use lib.IntN.{ℤ, pos, negsuc, negℤ, subℕ, _+ℤ_, _*ℤ_}
 use lib.Signed.{_≤ℤ_, leZ-yes}
 use Rattle.accuracy.specs.Reduction.{plusPart, minusPart}
@@ -23,12 +23,6 @@ le-of-parts (pos a) (pos b) h = leZ-yes (le→leb a b (omega arith))
 le-of-parts (pos a) (negsuc b) h = absurd (omega arith)
 le-of-parts (negsuc a) (pos b) h = leZ-yes tt
 le-of-parts (negsuc a) (negsuc b) h = leZ-yes (le→leb b a (omega arith))
-
-pub le-to-parts : (z w : ℤ) → z ≤ℤ w → plusPart z + minusPart w ≤ plusPart w + minusPart z
-le-to-parts (pos a) (pos b) h = omega (arith, leb→le a b (h .le))
-le-to-parts (pos a) (negsuc b) h = absurd (h .le)
-le-to-parts (negsuc a) (pos b) h = omega arith
-le-to-parts (negsuc a) (negsuc b) h = omega (arith, leb→le b a (h .le))
 
 -- The parts of −z, of −a for a whole number a, and of a − b.
 pub neg-plus : (z : ℤ) → plusPart (negℤ z) ≡ minusPart z

@@ -2,10 +2,9 @@
 use Prim.Native.Nat.{ℕ, zero, suc, _+_, _≤_, _<_}
 use mathlib.Core.Bool.{Bool, true, false, cond}
 use mathlib.Core.Path.{_≡_, refl, ap, _∙_}
-use mathlib.Core.Logic.{_⊎_, inl, inr}
 use native.Mathlib.Omega.{arith}
-use lib.Dec.{T, leb, eqb, leb→le, nleb→lt, eqb→eq, not-T}
-use lib.Ieee.Bits.{is-false}
+use lib.Dec.{T, eqb}
+use borrow.Author.Tests.{le-leb, lt-leb, ne-eqb}
 use Rattle.exact.specs.Chains.{In}
 use Rattle.exact.specs.Elimination.{pivot}
 use Rattle.exact.specs.Run.{RightStep}
@@ -15,18 +14,11 @@ use Rattle.definitions.specs.Numbers.{0·0, 1·0, units}
 use Rattle.definitions.specs.LeavingRates.{System, b↓, column}
 use Rattle.rounding.specs.Good.{Good, one·units}
 use Rattle.rounding.proofs.Laws.{zero-is-good, one-is-good, units-zero, units-one}
-use Rattle.steps.proofs.LeavingRates.{column-start, column-before, column-step}
-use Rattle.accuracy.specs.LeavingRates.{inUnits, identityColumn, stageRoundings}
-use Rattle.accuracy.proofs.Range.{downward-column, column-down}
+use Rattle.steps.proofs.LeavingRatesSteps.{column-start, column-before, column-step}
+use Rattle.accuracy.specs.LeavingRatesAccuracy.{inUnits, identityColumn, stageRoundings}
+use Rattle.accuracy.proofs.LeavingRatesRange.{downward-column, column-down}
 use Rattle.accuracy.proofs.LeavingRatesStages.{Eliminated, Shared, place-step}
-
--- Stage k has reached column j, or stands left of it.
-reached : (j k : ℕ) → ((leb j k ≡ true) × (j ≤ k)) ⊎ ((leb j k ≡ false) × (k < j))
-reached j k = go (leb j k) refl
-  where
-    go : (c : Bool) → leb j k ≡ c → ((leb j k ≡ true) × (j ≤ k)) ⊎ ((leb j k ≡ false) × (k < j))
-    go true e = inl (e, leb→le j k (rw e tt))
-    go false e = inr (e, nleb→lt j k (rw e tt))
+use Rattle.exact.proofs.Cases.{by-order}
 
 unit-good : (c : Bool) → Good (cond c 1·0 0·0)
 unit-good true = one-is-good
@@ -45,16 +37,12 @@ module _ (r : ℕ) (at : ℕ → System) (j : ℕ) where
   column-left : (k : ℕ) → k ≤ j → b↓ r at j k ≡ b↓ r at j zero
   column-left zero h = refl
   column-left (suc k) h =
-      elim (reached j k) [
-        | inl c ↦ absurd (let l = c .1 in omega arith)
-        | inr c ↦ column-before r at j k (c .0) ∙ column-left k (omega arith)
-      ]
+      column-before r at j k (lt-leb j k (omega arith)) ∙ column-left k (omega arith)
 
   left-zero : (k : ℕ) → k < j → units (b↓ r at j k k) ≡ zero
   unfolding identityColumn
   left-zero k h =
-      let off : eqb k j ≡ false = is-false (eqb k j) (not-T (eqb k j) (λ t. let e = eqb→eq k j t in omega arith)) in
-      ap (λ b. units (b k)) (column-left k (omega arith)) ∙ column-units k ∙ ap (λ c. cond c one·units zero) off
+      ap (λ b. units (b k)) (column-left k (omega arith)) ∙ column-units k ∙ rw (ne-eqb k j (omega arith))
 
   module _ (s : Shared r at) (t : T (column r at j)) where
     -- One stage of row i.
@@ -63,15 +51,14 @@ module _ (r : ℕ) (at : ℕ → System) (j : ℕ) where
         → Eliminated
         (stageRoundings (suc m)) (pivot k m (inUnits (at k) b)) (b↓ r at j k i) (at k .t i k) (b↓ r at j k k) (b↓ r at j (suc k) i)
     column-next k m e g i l b =
-        elim (reached j k) [
-          | inl c ↦
-              rw (column-step r at j k i (c .0) (omega arith))
-              (place-step r at k m e (s .good k m e) (s .range k m e) i l (b↓ r at j k i) (b↓ r at j k k) (g i (later l)) (g k first)
-              (column-down r at j r k i (downward-column r at j t) (c .1) (omega arith) (omega arith) (omega arith)) b)
-          | inr c ↦
-              rw (column-before r at j k (c .0))
-              (record { good = g i (later l); near = near-eq (rw (left-zero k (c .1)) (omega arith)) })
-        ]
+        by-order j k
+        (λ c.
+        rw (column-step r at j k i (le-leb j k c) (omega arith))
+        (place-step r at k m e (s .good k m e) (s .range k m e) i l (b↓ r at j k i) (b↓ r at j k k) (g i (later l)) (g k first)
+        (column-down r at j r k i (downward-column r at j t) c (omega arith) (omega arith) (omega arith)) b))
+        (λ c.
+        rw (column-before r at j k (lt-leb j k c))
+        (record { good = g i (later l); near = near-eq (rw (left-zero k c) (omega arith)) }))
 
     pub column-good : (k m : ℕ) → suc (k + m) ≡ r → (i : ℕ) → In k (suc m) i → Good (b↓ r at j k i)
     column-good zero m e i l = rw (column-start r at j i) (unit-good (eqb i j))

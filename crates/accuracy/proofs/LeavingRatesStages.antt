@@ -1,27 +1,26 @@
 -- The downward stages, as far as every column shares them: the numbers stay good, and each stage is near an exact elimination step.
 use Prim.Native.Nat.{ℕ, zero, suc, _+_, _*_, _≤_, _<_}
-use mathlib.Core.Path.{_≡_, sym, ap, _∙_, subst}
+use mathlib.Core.Path.{_≡_, sym, subst}
 use mathlib.Core.Logic.{_≢_}
 use native.Mathlib.Omega.{arith}
 use lib.Dec.{T}
 use lib.Ieee.{Float}
 use Rattle.exact.specs.Chains.{In}
 use Rattle.exact.specs.Near.{Near}
-use Rattle.exact.specs.Systems.{AllOut, diag}
+use Rattle.exact.specs.Systems.{AllOut}
 use Rattle.exact.specs.Elimination.{pivot}
 use Rattle.exact.specs.Run.{Step, SharedSteps, levelCount}
-use Rattle.exact.specs.Sums.{sum as total}
-use Rattle.exact.proofs.Near.{near-sym, near-grow, near-zero}
-use Rattle.exact.proofs.Sums.{first, later, zero-sum, zero-term}
+use Rattle.exact.proofs.Near.{near-sym, near-grow}
+use Rattle.exact.proofs.Sums.{first, later}
 use Rattle.exact.proofs.Run.{level-out}
-use Rattle.definitions.specs.Numbers.{_⊕_, _⊗_, divInRange, addProductInRange, sum, sumInRange, units}
+use Rattle.definitions.specs.Numbers.{_⊕_, _⊗_, divInRange, addProductInRange, units}
 use Rattle.definitions.specs.LeavingRates.{System, downward, eliminate, p, m↓, sharedBefore, shared}
 use Rattle.rounding.specs.Good.{Good}
-use Rattle.rounding.proofs.Sums.{sum-is-good}
-use Rattle.steps.proofs.LeavingRates.{at-start, at-next, pivot-is, multiplier-is, size-step, exit-step}
-use Rattle.accuracy.specs.LeavingRates.{inUnits, GoodSystem, StagesGetOut, stageRoundings}
-use Rattle.accuracy.proofs.Range.{StageRange, stage-range, downward-shared, upward-division}
-use Rattle.accuracy.proofs.Operations.{adds-product, sum-near}
+use Rattle.steps.proofs.LeavingRatesSteps.{at-start, at-next, multiplier-is, size-step, exit-step}
+use Rattle.accuracy.specs.LeavingRatesAccuracy.{inUnits, GoodSystem, StagesGetOut, stageRoundings}
+use Rattle.accuracy.proofs.LeavingRatesRange.{StageRange, stage-range, downward-shared, upward-division}
+use Rattle.accuracy.proofs.OperationErrors.{adds-product}
+use Rattle.accuracy.proofs.PivotErrors.{row-good, pivot-good, pivot-near}
 
 -- The number w is good, and within e roundings of x + t·y / P.
 pub record Eliminated (e P : ℕ) (x t y w : Float) : Type 0 where
@@ -29,35 +28,7 @@ pub record Eliminated (e P : ℕ) (x t y w : Float) : Type 0 where
   pub near : Near e (units w * P) (units x * P + units t * units y)
 
 -- One stage k, with m stages after it.
-pub pivot-sum : (r : ℕ) (at : ℕ → System) (k m : ℕ) → suc (k + m) ≡ r → p r at k ≡ sum (at k .s k) (at k .t k) (suc k) m
-pivot-sum r at k m e = pivot-is r at k ∙ ap (sum (at k .s k) (at k .t k) (suc k)) (omega arith)
-
 module _ (r : ℕ) (at : ℕ → System) (k m : ℕ) (e : suc (k + m) ≡ r) (g : GoodSystem k (suc m) (at k)) where
-  row-good : (j : ℕ) → In (suc k) m j → Good (at k .t k j)
-  row-good j l = g .size k j first (later l) (omega arith)
-
-  -- The pivot's laws: good, a rounding for each addition, and zero where all its terms are and only there.
-  module _ (t : T (sumInRange (at k .s k) (at k .t k) (suc k) m)) where
-    pub pivot-good : Good (p r at k)
-    pivot-good =
-        rw (pivot-sum r at k m e) (sum-is-good (at k .s k) (at k .t k) (suc k) (g .exit k first) m (λ j l h. row-good j (omega arith)) t)
-
-    pub pivot-near : (b : ℕ → ℕ) → Near m (units (p r at k)) (pivot k m (inUnits (at k) b))
-    unfolding pivot diag
-    pivot-near b = rw (pivot-sum r at k m e) (sum-near (at k .s k) (at k .t k) (suc k) (g .exit k first) m row-good t)
-
-    pub pivot-of-zeros : units (at k .s k) ≡ 0 → ((j : ℕ) → In (suc k) m j → units (at k .t k j) ≡ 0) → units (p r at k) ≡ 0
-    unfolding pivot diag
-    pivot-of-zeros z f =
-        let terms = zero-sum (λ j. units (at k .t k j)) (suc k) m f in
-        near-zero (pivot-near (λ i. zero)) (omega arith)
-
-    pub zero-pivot : units (p r at k) ≡ 0 → (units (at k .s k) ≡ 0) × ((j : ℕ) → In (suc k) m j → units (at k .t k j) ≡ 0)
-    unfolding pivot diag
-    zero-pivot z =
-        let whole : units (at k .s k) + total (λ j. units (at k .t k j)) (suc k) m ≡ 0 = near-zero (near-sym (pivot-near (λ i. zero))) z in
-        (omega arith, λ j l. zero-term (λ j. units (at k .t k j)) (suc k) m j (omega arith) l)
-
   module _ (s : StageRange r at k m) where
     -- One place: x of row i becomes x + m·y, where y is its column's number in row k.
     pub place-step :
@@ -68,8 +39,8 @@ module _ (r : ℕ) (at : ℕ → System) (k m : ℕ) (e : suc (k + m) ≡ r) (g 
         let ratio = multiplier-is r at k i in
         let t = at k .t i k in
         let gt = g .size i k (later l) first (omega arith) in
-        let sum = adds-product x t (p r at k) y gx gt (pivot-good (s .pivot)) gy (s .row i l .division) (rw ratio at a) in
-        rw ratio (record { good = sum .good; near = near-grow (omega arith) (sum .whole (near-sym (pivot-near (s .pivot) b))) })
+        let sum = adds-product x t (p r at k) y gx gt (pivot-good r at k m e g (s .pivot)) gy (s .row i l .division) (rw ratio at a) in
+        rw ratio (record { good = sum .good; near = near-grow (omega arith) (sum .whole (near-sym (pivot-near r at k m e g (s .pivot) b))) })
 
     -- The next stage begins with these numbers.
     module _ (next : suc k < r → at (suc k) ≡ eliminate r (at k) k) where
@@ -78,7 +49,7 @@ module _ (r : ℕ) (at : ℕ → System) (k m : ℕ) (e : suc (k + m) ≡ r) (g 
           → Eliminated (stageRoundings (suc m)) (pivot k m (inUnits (at k) b)) (at k .t i j) (at k .t i k) (at k .t k j) (at (suc k) .t i j)
       size-next i j li lj n b =
           rw (size-step r at k (next (omega arith)) i j (omega arith) (omega arith))
-          (place-step i li (at k .t i j) (at k .t k j) (g .size i j (later li) (later lj) n) (row-good j lj) (s .row i li .size j lj n) b)
+          (place-step i li (at k .t i j) (at k .t k j) (g .size i j (later li) (later lj) n) (row-good r at k m e g j lj) (s .row i li .size j lj n) b)
 
       exit-next :
           (i : ℕ) → In (suc k) m i → (b : ℕ → ℕ)

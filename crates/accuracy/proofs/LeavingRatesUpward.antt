@@ -13,16 +13,17 @@ use Rattle.exact.specs.Elimination.{pivot}
 use Rattle.exact.specs.Run.{rowCount}
 use Rattle.exact.proofs.Near.{near-refl, near-sym, near-trans, near-grow, near-scale, near-add, near-sum, near-sum-down}
 use Rattle.exact.proofs.Sums.{first, sum-scale}
-use Rattle.exact.proofs.Fractions.{product, over-product}
+use Rattle.exact.proofs.CommonDenominator.{product, over-product}
 use Rattle.definitions.specs.Numbers.{_⊕_, _⊗_, _⊘_, addProductInRange, units}
 use Rattle.definitions.specs.LeavingRates.{System, p, m↑, b↓, b↑, solved, quotient, column}
 use Rattle.rounding.specs.Good.{Good, one·units}
 use Rattle.rounding.proofs.Laws.{quotient-good, quotient-rounds}
-use Rattle.steps.proofs.LeavingRates.{upward-multiplier-is, upward-start, upward-step, solved-is, quotient-is}
-use Rattle.accuracy.specs.LeavingRates.{inUnits, Computed, rowRoundings}
-use Rattle.accuracy.proofs.Range.{upward-column, column-up, last-division}
-use Rattle.accuracy.proofs.Operations.{AddsProduct, adds-product}
-use Rattle.accuracy.proofs.LeavingRatesStages.{Shared, pivot-good, pivot-near}
+use Rattle.steps.proofs.LeavingRatesSteps.{upward-multiplier-is, upward-start, upward-step, solved-is, quotient-is}
+use Rattle.accuracy.specs.LeavingRatesAccuracy.{inUnits, Computed, rowRoundings}
+use Rattle.accuracy.proofs.LeavingRatesRange.{upward-column, column-up, last-division}
+use Rattle.accuracy.proofs.OperationErrors.{AddsProduct, adds-product}
+use Rattle.accuracy.proofs.LeavingRatesStages.{Shared}
+use Rattle.accuracy.proofs.PivotErrors.{pivot-good, pivot-near}
 use Rattle.accuracy.proofs.LeavingRatesColumn.{column-good}
 
 -- A factor c that makes one denominator d of another, q.

@@ -1,24 +1,21 @@
 -- The joins, from the highest stage down: each adds n + 3 roundings to the entries of the known stages.
 use Prim.Native.Nat.{ℕ, zero, suc, _+_, _*_, _-_, _≤_, _<_}
 use native.Mathlib.Nat.{mul-comm, zero-mul, le-refl}
-use native.Mathlib.Decide.{ℕ-discrete, decLe}
+use native.Mathlib.Decide.{ℕ-discrete}
 use native.Mathlib.Omega.{arith}
-use mathlib.Core.Bool.{Bool, true, false, true≢false, cond, _||_}
+use mathlib.Core.Bool.{Bool, true, false, true≢false, cond}
 use mathlib.Core.Logic.{_≢_}
 use mathlib.Core.Path.{_≡_, refl, sym, ap, _∙_, subst, subst₂}
-use lib.Dec.{leb}
 use lib.Ieee.{Float}
-use borrow.Author.Tests.{le-leb, lt-leb}
 use Rattle.exact.specs.Near.{Near}
 use Rattle.exact.proofs.Sums.{sum-scale}
 use Rattle.exact.proofs.Near.{near-eq, near-sym, near-trans, near-grow, near-scale, near-scale-left, near-sum}
 use Rattle.definitions.specs.Numbers.{_⊗_, _⊘_, 0·0, 1·0, units}
 use Rattle.definitions.specs.Margins.{sumWith, a, kept, known, xAfter, rank}
 use Rattle.rounding.specs.Good.{Good, one·units}
-use Rattle.rounding.proofs.Laws.{product-good, product-rounds, quotient-good, quotient-rounds, zero-is-good, units-zero, one-is-good, units-one}
-use Rattle.steps.proofs.Margins.{known-is, x-kept, join-corner, join-row, join-column, join-other}
-use Rattle.accuracy.specs.LeavingRates.{Computed, EngineAccuracy}
-use Rattle.rounding.proofs.Range.{one-pos}
+use Rattle.steps.proofs.MarginsSteps.{known-from, known-below, known-next, x-kept, join-corner, join-row, join-column, join-other}
+use Rattle.accuracy.specs.LeavingRatesAccuracy.{Computed, EngineAccuracy}
+use Rattle.rounding.proofs.Laws.{one-pos, product-good, product-rounds, quotient-good, quotient-rounds, zero-is-good, units-zero, one-is-good, units-one}
 use Rattle.accuracy.proofs.MarginsExact.{exactH, exactA, leads-to}
 use Rattle.accuracy.proofs.MarginsJoins.{Part, part-same, columnSum, corner, joined, joined-other, joined-corner, joined-column, joined-row, join-part}
 use Rattle.accuracy.proofs.MarginsStart.{startOver, startTable, start-part}
@@ -27,7 +24,7 @@ use Rattle.accuracy.proofs.MarginsRange.{JoinRange, KnownRange}
 use Rattle.accuracy.proofs.MarginsRatios.{Setting, ratio-near, a-near-unkept, kept-tells}
 use Rattle.accuracy.proofs.MarginsCounts.{answerCount, entryCount}
 use Rattle.accuracy.proofs.MarginsKept.{near-both, start-near}
-use Rattle.exact.proofs.Bools.{or-false, or-true}
+use Rattle.exact.proofs.Cases.{by-bool}
 
 -- m = t / a, and a is near A over D.
 near-quotient : (m a A t D w : ℕ) → Near 1 (m * a) (t * w) → Near 1 (a * D) A → Near 2 (m * A) (t * D * w)
@@ -49,27 +46,6 @@ computed-zero z =
     let none = ap (λ t. t * z) units-zero ∙ zero-mul z in
     record { good = zero-is-good; near = near-eq (none ∙ sym (zero-mul one·units)) }
 
--- The known stages: the kept ones, then one more at a time, from the highest down.
-module _ (n : ℕ) (t : ℕ → ℕ → Float) (d : ℕ → Float) (k : ℕ → Float) where
-  known-by : (q i : ℕ) {b : Bool} → leb (n - q) i ≡ b → known n t d k q i ≡ (kept n t d k i || b)
-  known-by q i e = known-is n t d k q i ∙ ap (λ b. kept n t d k i || b) e
-
-  known-start : (i : ℕ) → i < n → known n t d k 0 i ≡ kept n t d k i
-  known-start i b = known-by 0 i (lt-leb (n - 0) i (omega arith)) ∙ or-false (kept n t d k i)
-
-  known-from : (q i : ℕ) → n - q ≤ i → known n t d k q i ≡ true
-  known-from q i l = known-by q i (le-leb (n - q) i l) ∙ or-true (kept n t d k i)
-
-  known-below : (q i : ℕ) → i < n - q → known n t d k q i ≡ kept n t d k i
-  known-below q i l = known-by q i (lt-leb (n - q) i l) ∙ or-false (kept n t d k i)
-
-  known-next : (q i : ℕ) → q < n → i ≢ n - suc q → known n t d k (suc q) i ≡ known n t d k q i
-  known-next q i b e =
-      elim (decLe (n - q) i) [
-        | yes l ↦ known-from (suc q) i (omega arith) ∙ sym (known-from q i l)
-        | no l ↦ known-below (suc q) i (omega arith) ∙ sym (known-below q i (omega arith))
-      ]
-
 module _ {n : ℕ} {t : ℕ → ℕ → Float} {d : ℕ → Float} {D : ℕ} {K : ℕ → ℕ} {k : ℕ → Float} (s : Setting n t d D K k) where
   -- After q joins: the exact inverse on the known stages, and each known entry within E of it.
   pub record Joined (E q : ℕ) : Type 0 where
@@ -81,11 +57,7 @@ module _ {n : ℕ} {t : ℕ → ℕ → Float} {d : ℕ → Float} {D : ℕ} {K 
         → Computed E (xAfter n t d k q i j) (X i j) Z
 
   unkept : (i : ℕ) → i < n → exactH (s .exact) i ≡ 0 → kept n t d k i ≡ false
-  unkept i b e = go (kept n t d k i) refl
-    where
-      go : (v : Bool) → kept n t d k i ≡ v → v ≡ false
-      go true f = absurd (omega (arith, kept-tells s .yes-kept i b f))
-      go false f = refl
+  unkept i b e = by-bool (kept n t d k i) (λ f. absurd (omega (arith, kept-tells s .yes-kept i b f))) (λ f. f)
 
   -- Stage c = n - 1 - q joins, which is not kept.
   module _ (E q : ℕ) (bq : q < n) (left : kept n t d k (n - suc q) ≡ false) (before : Joined E q) where
@@ -265,7 +237,7 @@ module _ {n : ℕ} {t : ℕ → ℕ → Float} {d : ℕ → Float} {D : ℕ} {K 
 
     join-start : Joined startCount 0
     join-start =
-        let start = known-start n t d k in
+        let start : (i : ℕ) → i < n → known n t d k 0 i ≡ kept n t d k i = λ i b. known-below n t d k 0 i (omega arith) in
         record {
           Z = startOver (s .exact);
           X = startTable (s .exact) (kept n t d k);
@@ -276,13 +248,11 @@ module _ {n : ℕ} {t : ℕ → ℕ → Float} {d : ℕ → Float} {D : ℕ} {K 
     joins-to : (q : ℕ) → q ≤ n → Joined (startCount + q * (n + 3)) q
     joins-to zero l = subst (λ e. Joined e 0) (omega arith) join-start
     joins-to (suc q) l =
-        subst (λ e. Joined e (suc q)) (omega arith) (by-kept (kept n t d k (n - suc q)) refl (joins-to q (omega arith)))
-      where
-        by-kept :
-            (b : Bool) → kept n t d k (n - suc q) ≡ b → Joined (startCount + q * (n + 3)) q
-            → Joined (startCount + q * (n + 3) + (n + 3)) (suc q)
-        by-kept true e before = kept-step (startCount + q * (n + 3)) q l e before
-        by-kept false e before = join-step (startCount + q * (n + 3)) q l e before
+        let before = joins-to q (omega arith) in
+        subst (λ e. Joined e (suc q)) (omega arith)
+        (by-bool (kept n t d k (n - suc q))
+        (λ e. kept-step (startCount + q * (n + 3)) q l e before)
+        (λ e. join-step (startCount + q * (n + 3)) q l e before))
 
     -- After n joins every stage is known.
     pub all-known : (i : ℕ) → known n t d k n i ≡ true

@@ -1,25 +1,20 @@
 -- The exact side of the steps for margins: the kept system on all n stages, and what its solutions are to the matrix.
-use mathlib.Core.Path.{_≡_, refl, ap, _∙_}
+use mathlib.Core.Path.{_≡_, ap, _∙_}
 use mathlib.Core.Logic.{_≢_, inl, inr}
-use Prim.Native.Nat.{ℕ, zero, suc, _+_, _*_, _-_, _<_}
+use Prim.Native.Nat.{ℕ, suc, _+_, _*_, _-_, _<_}
 use native.Mathlib.Nat.{eq-zero-or-pos, mul-pos}
 use native.Mathlib.Decide.{ℕ-discrete, decLt}
 use native.Mathlib.Omega.{arith}
 use Rattle.exact.specs.Chains.{In}
 use Rattle.exact.specs.Sums.{sum}
-use Rattle.exact.specs.Systems.{System, diag, mix, Solves, AllOut}
-use Rattle.exact.proofs.Sums.{sum-cong, sum-scale, zero-sum, zero-term}
+use Rattle.exact.specs.Systems.{Equations, diag, mix, Solves, AllOut}
+use Rattle.exact.proofs.Sums.{sum-cong, sum-scale, zero-sum}
 use Rattle.accuracy.specs.Reduction.{delta}
-use Rattle.accuracy.specs.Ratios.{H, Ratios, RatioLaws, RatiosObey}
-use Rattle.accuracy.specs.Scaled.{scaled, ScaledGetsOut}
-use Rattle.accuracy.proofs.Ratios.{ratios-obey}
-use Rattle.accuracy.proofs.Scaled.{scaled-gets-out, scaled-diag}
+use Rattle.accuracy.specs.ExactRatios.{H, ExactRatios}
+use Rattle.accuracy.specs.ExactScaled.{scaled, ScaledGetsOut}
+use Rattle.accuracy.proofs.ExactScaled.{ratio-laws, scaled-gets-out, scaled-diag, not-kept-low, not-kept-high}
 
-zero-factor : (x y : ℕ) → x * y ≡ 0 → 0 < y → x ≡ 0
-zero-factor zero y e p = refl
-zero-factor (suc x) y e p = omega (arith, mul-pos {m = suc x} (omega arith) p)
-
-module _ {n : ℕ} {t : ℕ → ℕ → ℕ} {d : ℕ → ℕ} {D : ℕ} {K : ℕ → ℕ} (x : Ratios n t d D K) where
+module _ {n : ℕ} {t : ℕ → ℕ → ℕ} {d : ℕ → ℕ} {D : ℕ} {K : ℕ → ℕ} (x : ExactRatios n t d D K) where
   -- h_i and a_i over D; the diagonal of row i, and the row beside it.
   abbrev pub exactH : ℕ → ℕ
   exactH i = H n t D K i
@@ -33,42 +28,28 @@ module _ {n : ℕ} {t : ℕ → ℕ → ℕ} {d : ℕ → ℕ} {D : ℕ} {K : �
   abbrev pub beside : ℕ → (ℕ → ℕ) → ℕ
   beside i z = sum (λ k. t i k * D * z k) 0 n
 
-  laws : (i : ℕ) → i < n → RatioLaws n t d D K i
-  unfolding RatiosObey
-  laws = ratios-obey n t d D K x
-
   pub a-pos : (i : ℕ) → i < n → 0 < exactA i
   a-pos i l = omega (arith, mul-pos (x .margin i l) (x .positive))
 
   -- 1 − k_i = d_i / a_i
   pub k-rest : (i : ℕ) → i < n → (D - K i) * exactA i ≡ D * (d i * D)
-  k-rest i l = laws i l .complement
+  k-rest i l = ratio-laws n t d D K x i l .complement
 
   pub k-zero : (i : ℕ) → i < n → exactH i ≡ 0 → K i ≡ 0
-  k-zero i l e = laws i l .zero .0 e
+  k-zero i l e = ratio-laws n t d D K x i l .zero .0 e
 
   pub h-zero : (i : ℕ) → i < n → K i ≡ 0 → exactH i ≡ 0
-  h-zero i l e = laws i l .zero .1 e
+  h-zero i l e = ratio-laws n t d D K x i l .zero .1 e
 
   -- A row that is not kept has sizes to earlier stages alone, which are not kept either.
-  none-later : (i j : ℕ) → exactH i ≡ 0 → i < j → j < n → t i j ≡ 0
-  unfolding H
-  none-later i j e l m =
-      let z = zero-factor (sum (t i) (suc i) (n - suc i)) D (omega arith) (x .positive) in
-      zero-term (t i) (suc i) (n - suc i) j z (omega arith)
-
-  none-earlier : (i j : ℕ) → exactH i ≡ 0 → j < i → t i j * K j ≡ 0
-  unfolding H
-  none-earlier i j e l = zero-term (λ j. t i j * K j) 0 i j (omega arith) (omega arith)
-
   none-kept : (i j : ℕ) → exactH i ≡ 0 → i < n → j < n → t i j * K j ≡ 0
   none-kept i j e l m =
       elim (decLt j i) [
-        | yes b ↦ none-earlier i j e b
+        | yes b ↦ not-kept-low n t d D K x i e j b
         | no b ↦
             elim (ℕ-discrete j i) [
               | yes q ↦ omega (arith, ap (λ k. t i j * k) (ap K q ∙ k-zero i l e))
-              | no q ↦ omega (arith, ap (λ s. s * K j) (none-later i j e (omega arith) m))
+              | no q ↦ omega (arith, ap (λ s. s * K j) (not-kept-high n t d D K x i e j (omega arith)))
             ]
       ]
 
@@ -77,20 +58,20 @@ module _ {n : ℕ} {t : ℕ → ℕ → ℕ} {d : ℕ → ℕ} {D : ℕ} {K : �
     where
       earlier : l < i
       earlier =
-          elim (decLt l i) [ yes b ↦ b | no b ↦ absurd (omega (arith, none-later i l e (omega arith) hl)) ]
+          elim (decLt l i) [ yes b ↦ b | no b ↦ absurd (omega (arith, not-kept-high n t d D K x i e l (omega arith))) ]
 
       unkept : exactH l ≡ 0
       unkept =
           elim (eq-zero-or-pos (K l)) [
             | inl z ↦ h-zero l hl z
-            | inr b ↦ absurd (omega (arith, zero-factor (t i l) (K l) (none-kept i l e hi hl) b))
+            | inr b ↦ absurd (omega (arith, none-kept i l e hi hl, mul-pos s b))
           ]
 
   -- The kept system with right sides b, on all n stages.
   abbrev pub exitSum : ℕ → ℕ
   exitSum i = sum (λ j. t i j * (D - K j)) (suc i) (n - suc i)
 
-  abbrev pub keptRows : (ℕ → ℕ) → System
+  abbrev pub keptRows : (ℕ → ℕ) → Equations
   keptRows b i = record { size = λ j. t i j * K j; exit = exitSum i + delta (K i) 0 1; right = b i }
 
   pub kept-out : (b : ℕ → ℕ) → AllOut 0 n (keptRows b)

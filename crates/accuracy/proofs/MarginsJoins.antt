@@ -13,7 +13,7 @@ use Rattle.exact.specs.Sums.{sum}
 use Rattle.exact.proofs.Sums.{sum-add, sum-cong, sum-scale, sum-swap, sum-single, zero-sum}
 use Rattle.rounding.specs.Good.{one·units}
 use Rattle.accuracy.specs.Reduction.{delta}
-use Rattle.accuracy.specs.Ratios.{Ratios}
+use Rattle.accuracy.specs.ExactRatios.{ExactRatios}
 use Rattle.accuracy.proofs.PartialSums.{delta-same, delta-other, sum-delta}
 use Rattle.accuracy.proofs.MarginsExact.{exactA, diagonal, beside, a-pos}
 
@@ -27,7 +27,7 @@ sum-delta-left j c n f b =
 -- X over Z is the inverse on the known stages: the row of a known stage holds in every column, and X is zero unless both
 -- stages are known.
 pub record Part
-    {n : ℕ} {t : ℕ → ℕ → ℕ} {d : ℕ → ℕ} {D : ℕ} {K : ℕ → ℕ} (x : Ratios n t d D K)
+    {n : ℕ} {t : ℕ → ℕ → ℕ} {d : ℕ → ℕ} {D : ℕ} {K : ℕ → ℕ} (x : ExactRatios n t d D K)
     (known : ℕ → Bool) (Z : ℕ) (X : ℕ → ℕ → ℕ) : Type 0 where
   pub positive : 0 < Z
   pub empty-row : (i j : ℕ) → i < n → known i ≡ false → X i j ≡ 0
@@ -37,7 +37,7 @@ pub record Part
       → diagonal x i * X i j ≡ delta i j (one·units * D) * Z + beside x i (λ l. X l j)
 
 module _
-    {n : ℕ} {t : ℕ → ℕ → ℕ} {d : ℕ → ℕ} {D : ℕ} {K : ℕ → ℕ} {x : Ratios n t d D K}
+    {n : ℕ} {t : ℕ → ℕ → ℕ} {d : ℕ → ℕ} {D : ℕ} {K : ℕ → ℕ} {x : ExactRatios n t d D K}
     {known : ℕ → Bool} {Z : ℕ} {X : ℕ → ℕ → ℕ} where
   -- The same stages known, by another test.
   pub part-same : {known′ : ℕ → Bool} → ((i : ℕ) → i < n → known′ i ≡ known i) → Part x known Z X → Part x known′ Z X
@@ -159,8 +159,8 @@ module _
             (part .row i l b (omega arith) e)
 
     -- The row of c, where its own place alone is left beside the diagonal, and the rows of the stages known before.
-    Row : ℕ → ℕ → Type 0
-    Row i j = diagonal x i * joined i j ≡ delta i j (one·units * D) * (Z * exactA x c) + beside x i (λ l. joined l j)
+    RowEquation : ℕ → ℕ → Type 0
+    RowEquation i j = diagonal x i * joined i j ≡ delta i j (one·units * D) * (Z * exactA x c) + beside x i (λ l. joined l j)
 
     beside-own : (j : ℕ) → beside x c (λ l. joined l j) ≡ t c c * D * joined c j
     beside-own j = sum-single (λ l. t c l * D * joined l j) 0 n c (omega arith) (λ l m e. none l (omega arith) e)
@@ -176,8 +176,8 @@ module _
     own-row : (a u D j e z s : ℕ) → a * j ≡ e * z → s ≡ u * D * j → (a + u * D) * j ≡ e * z + s
     own-row a u D j e z s f g = omega arith
 
-    new-row : (j : ℕ) → j < n → Row c j
-    unfolding Row
+    new-row : (j : ℕ) → j < n → RowEquation c j
+    unfolding RowEquation
     new-row j b =
         own-row (exactA x c) (t c c) D (joined c j) (delta c j (one·units * D)) (Z * exactA x c) (beside x c (λ l. joined l j))
         (place (ℕ-discrete j c)) (beside-own j)
@@ -192,8 +192,8 @@ module _
             let w = ap (λ s. s * (Z * exactA x c)) (delta-other c j (one·units * D) (λ f. e (sym f))) in
             omega arith
 
-    old-row : (i j : ℕ) → i < n → j < n → known i ≡ true → i ≢ c → Row i j
-    unfolding Row
+    old-row : (i j : ℕ) → i < n → j < n → known i ≡ true → i ≢ c → RowEquation i j
+    unfolding RowEquation
     old-row i j bi bj e o =
         elim (ℕ-discrete j c) [
           | yes f ↦
@@ -212,7 +212,7 @@ module _
     pub join-part :
         {known′ : ℕ → Bool} → ((i : ℕ) → i < n → i ≢ c → known′ i ≡ known i) → known′ c ≡ true
         → Part x known′ (Z * exactA x c) joined
-    unfolding Row
+    unfolding RowEquation
     join-part {known′} same new =
         record {
           positive = mul-pos (part .positive) (a-pos x c below);
@@ -228,6 +228,6 @@ module _
         apart : (i : ℕ) → known′ i ≡ false → i ≢ c
         apart i e f = true≢false (sym new ∙ ap known′ (sym f) ∙ e)
 
-        by-stage : (i j : ℕ) → i < n → j < n → known′ i ≡ true → Dec (i ≡ c) → Row i j
+        by-stage : (i j : ℕ) → i < n → j < n → known′ i ≡ true → Dec (i ≡ c) → RowEquation i j
         by-stage i j bi bj e (yes f) = rw f (new-row j bj)
         by-stage i j bi bj e (no o) = old-row i j bi bj (sym (same i bi o) ∙ e) o

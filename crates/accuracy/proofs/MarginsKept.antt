@@ -10,53 +10,32 @@ use lib.Ieee.{Float}
 use borrow.Author.Tests.{eq-eqb, ne-eqb}
 use Rattle.exact.specs.Chains.{In}
 use Rattle.exact.specs.Near.{Near}
-use Rattle.exact.specs.Systems.{System as Equations, diag, mix, Holds, Solves, AllOut}
+use Rattle.exact.specs.Systems.{Equations, Solves, AllOut}
 use Rattle.exact.specs.Perturbation.{NearRow, AllRows}
 use Rattle.exact.specs.Elimination.{Existence}
-use Rattle.exact.proofs.Sums.{sum-cong, sum-scale}
 use Rattle.exact.proofs.Near.{near-eq, near-sym, near-trans, near-grow, near-scale, near-scale-left, near-cancel, near-mul, near-through, pos-left}
-use Rattle.exact.proofs.Systems.{all-out-mono}
+use Rattle.exact.proofs.Systems.{multiplied, solves-multiplied, all-out-mono}
 use Rattle.exact.proofs.Elimination.{existence}
 use Rattle.exact.proofs.Perturbation.{all-rows, near-out, near-row-sym}
 use Rattle.definitions.specs.Numbers.{_⊗_, _⊘_, 0·0, sum, units}
 use Rattle.definitions.specs.LeavingRates.{downward, quotient}
-use Rattle.definitions.specs.Margins.{rank, h, a, kept, keptSystem, y, xAfter}
+use Rattle.definitions.specs.Margins.{rank, a, kept, keptSystem, y, xAfter}
 use Rattle.rounding.specs.Good.{Good, one·units}
-use Rattle.rounding.proofs.Laws.{product-good, product-rounds, quotient-good, quotient-rounds, zero-is-good, units-zero}
-use Rattle.steps.proofs.Margins.{kept-size, kept-exit, y-is, x-start}
-use Rattle.steps.proofs.Compact.{rank-below, stage-of-rank, Listed, listed}
-use Rattle.accuracy.specs.LeavingRates.{inUnits, identityColumn, GoodSystem, Computed, EngineWithin, EngineAccuracy}
+use Rattle.steps.proofs.MarginsSteps.{kept-size, kept-exit, y-is, x-start}
+use Rattle.steps.proofs.CompactOrder.{rank-below, stage-of-rank, Listed, listed}
+use Rattle.accuracy.specs.LeavingRatesAccuracy.{inUnits, identityColumn, GoodSystem, Computed, EngineWithin, EngineAccuracy}
 use Rattle.accuracy.specs.Reduction.{delta}
 use Rattle.accuracy.proofs.PartialSums.{delta-other}
-use Rattle.rounding.proofs.Range.{one-pos}
+use Rattle.rounding.proofs.Laws.{one-pos, product-good, product-rounds, quotient-good, quotient-rounds, zero-is-good, units-zero}
 use Rattle.accuracy.proofs.MarginsCounts.{hCount, systemCount, answerCount, product-count, size-count, exit-count}
 use Rattle.accuracy.proofs.MarginsExact.{exactA, exitSum, keptRows, a-pos, k-rest, k-zero, h-zero, kept-out}
 use Rattle.accuracy.proofs.MarginsStart.{rightSide, over, answer, answer-solves, share, startOver, start-over, startTable, start-kept}
 use Rattle.accuracy.proofs.MarginsPacked.{stage, packed, packed-solves, packed-out, stage-apart}
-use Rattle.accuracy.proofs.MarginsSums.{good-sum, near-sum-over}
-use Rattle.accuracy.proofs.MarginsRange.{ScaledRange, engine-shared, engine-column}
+use Rattle.accuracy.proofs.MarginsSums.{near-sum-over}
+use Rattle.accuracy.proofs.MarginsRange.{ScaledRange}
+use Rattle.accuracy.proofs.LeavingRatesRange.{table-shared, table-column}
 use Rattle.accuracy.proofs.MarginsRatios.{Setting, ratio-near, a-near, kept-tells, near-product}
-
--- A system multiplied by c has the same solutions.
-times : ℕ → Equations → Equations
-times c B i = record { size = λ j. B i .size j * c; exit = B i .exit * c; right = B i .right * c }
-
-times-diag : (k m c : ℕ) (B : Equations) (i : ℕ) → diag k m (times c B i) ≡ diag k m (B i) * c
-unfolding times diag
-times-diag k m c B i = let s = sum-scale (B i .size) c k m in omega arith
-
-times-mix : (k m c : ℕ) (B : Equations) (i : ℕ) (z : ℕ → ℕ) → mix k m (times c B i) z ≡ mix k m (B i) z * c
-unfolding times mix
-times-mix k m c B i z =
-    sum-cong (λ j. B i .size j * c * z j) (λ j. B i .size j * z j * c) k m (λ j l. omega arith)
-    ∙ sum-scale (λ j. B i .size j * z j) c k m
-
-solves-times : {k m d : ℕ} {B : Equations} {z : ℕ → ℕ} (c : ℕ) → Solves k m B d z → Solves k m (times c B) d z
-unfolding times
-solves-times {k} {m} {d} {B} {z} c s = record { row = row }
-  where
-    row : (i : ℕ) → In k m i → Holds k m (times c B i) d z i
-    row i l = rw (times-diag k m c B i, times-mix k m c B i z) (omega (arith, ap (λ t. t * c) (s .row i l)))
+use Rattle.rounding.proofs.RoundedSums.{sum-is-good}
 
 -- q = m / a, and a is near A over D, where r·A = D·m·D: q is near r.
 near-rest :
@@ -147,7 +126,7 @@ module _ {n : ℕ} {t : ℕ → ℕ → Float} {d : ℕ → Float} {D : ℕ} {K 
           near-grow (omega (arith, product-count n n j bj)) near
 
     new-exit-good : Good (sum 0·0 term (suc i) (n - suc i))
-    new-exit-good = good-sum 0·0 term (suc i) zero-is-good (n - suc i) term-good (tests .exit)
+    new-exit-good = sum-is-good 0·0 term (suc i) zero-is-good (n - suc i) (λ j l u. term-good j (omega arith)) (tests .exit)
 
     new-exit-near : Near (systemCount n) (units (sum 0·0 term (suc i) (n - suc i)) * D) (exitSum (s .exact) i)
     new-exit-near =
@@ -205,8 +184,7 @@ module _ {n : ℕ} {t : ℕ → ℕ → Float} {d : ℕ → Float} {D : ℕ} {K 
         | no e ↦ rw (ne-eqb p q e, ne-eqb (at p) (at q) (at-apart p q bp bq e)) (zero-mul D)
       ]
 
-  rows-near : (q : ℕ) → q < r → (p : ℕ) → In 0 r p → NearRow (systemCount n) 0 r p (times D (unitRows q) p) (exactRows (at q) p)
-  unfolding times
+  rows-near : (q : ℕ) → q < r → (p : ℕ) → In 0 r p → NearRow (systemCount n) 0 r p (multiplied D (unitRows q p)) (exactRows (at q) p)
   rows-near q bq p lp = record { moves = record { size = sizes; exit = exits }; right = near-eq (right-same q p bq bp) }
     where
       bp : p < r
@@ -232,14 +210,13 @@ module _ {n : ℕ} {t : ℕ → ℕ → Float} {d : ℕ → Float} {D : ℕ} {K 
           omega (arith, delta-other (K (at p)) 0 1 apart) in
           rw (kept-exit n t d k p bp, e) (new-exit-near (at p) (ip .below) (ip .passes))
 
-  times-out : (q : ℕ) → q < r → AllOut 0 r (times D (unitRows q))
-  times-out q bq = near-out (exact-out (at q)) (λ p lp. near-row-sym (rows-near q bq p lp) .moves)
+  multiplied-out : (q : ℕ) → q < r → AllOut 0 r (λ p. multiplied D (unitRows q p))
+  multiplied-out q bq = near-out (exact-out (at q)) (λ p lp. near-row-sym (rows-near q bq p lp) .moves)
 
   -- The system gets out, whatever its right side is.
   units-out : (b : ℕ → ℕ) (q : ℕ) → q < r → AllOut 0 r (inUnits (keptSystem n t d k) b)
-  unfolding times
   units-out b q bq =
-      all-out-mono (times-out q bq)
+      all-out-mono (multiplied-out q bq)
       (λ i j li lj e p. pos-left (units (keptSystem n t d k .t i j)) D p)
       (λ i li p. pos-left (units (keptSystem n t d k .s i)) D p)
 
@@ -254,12 +231,12 @@ module _ {n : ℕ} {t : ℕ → ℕ → Float} {d : ℕ → Float} {D : ℕ} {K 
         let at₀ = downward r (keptSystem n t d k) in
         let j = at q in
         let (c, z, pos, solves) = existence 0 r (unitRows q) (units-out (identityColumn q) q bq) in
-        let shared = engine-shared r at₀ (s .range .engine) in
-        let column = engine-column r at₀ (s .range .engine) q bq in
+        let shared = table-shared r at₀ (s .range .engine) in
+        let column = table-column r at₀ (s .range .engine) q bq in
         let computed = engine r q (keptSystem n t d k) system-good (units-out (λ i. zero) q bq) shared column c z solves p bp in
         let moved =
-        all-rows 0 r (times D (unitRows q)) (exactRows j) (systemCount n) c (over (s .exact) j) z
-        (λ p. answer (s .exact) j (at p)) (times-out q bq) (rows-near q bq) (solves-times D solves) (exact-solves j) p
+        all-rows 0 r (λ p. multiplied D (unitRows q p)) (exactRows j) (systemCount n) c (over (s .exact) j) z
+        (λ p. answer (s .exact) j (at p)) (multiplied-out q bq) (rows-near q bq) (solves-multiplied D solves) (exact-solves j) p
         (omega arith) in
         record {
           good = computed .good;

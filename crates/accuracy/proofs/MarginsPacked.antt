@@ -1,6 +1,6 @@
 -- Compact order on the exact side: sums, solutions and chains of a system whose other stages are empty.
-use Prim.Native.Nat.{ℕ, zero, suc, _+_, _*_, _≤_, _<_}
-use native.Mathlib.Nat.{zero-add, zero-mul}
+use Prim.Native.Nat.{ℕ, zero, suc, _*_, _<_}
+use native.Mathlib.Nat.{zero-mul}
 use native.Mathlib.Numerals.{add-one}
 use native.Mathlib.Omega.{arith}
 use mathlib.Core.Bool.{Bool, true, false}
@@ -10,20 +10,15 @@ use lib.ListN.{getD}
 use lib.Dec.{T, ltb→lt}
 use Rattle.exact.specs.Chains.{In, GetsOut, stop, go}
 use Rattle.exact.specs.Sums.{sum}
-use Rattle.exact.specs.Systems.{System, diag, mix, Holds, Solves, AllOut, moves, exits}
-use Rattle.exact.proofs.Sums.{sum-last, sum-cong}
+use Rattle.exact.specs.Systems.{Equations, diag, mix, RowHolds, Solves, AllOut, moves, exits}
+use Rattle.exact.proofs.Sums.{sum-end, sum-cong}
+use Rattle.exact.proofs.Cases.{by-bool}
 use Rattle.definitions.specs.Margins.{stagesWith, rank}
-use Rattle.steps.proofs.Compact.{by-test, rank-none, rank-take, rank-leave, rank-below, list-longer, stage-of-rank, listed}
+use Rattle.steps.proofs.CompactOrder.{rank-none, rank-take, rank-leave, rank-below, list-longer, stage-of-rank, listed}
 
 module _ (test : ℕ → Bool) where
   abbrev pub stage : ℕ → ℕ → ℕ
   stage n p = getD (stagesWith test n) p 0
-
-  pub rank-bound : (n : ℕ) → rank test n ≤ n
-  rank-bound zero = omega (arith, rank-none test)
-  rank-bound (suc n) =
-      let b = rank-bound n in
-      by-test test n (λ e. omega (arith, rank-take test n e)) (λ e. omega (arith, rank-leave test n e))
 
   -- A sum over the listed stages is the sum over all, where the other terms are zero.
   abbrev listedSum : (ℕ → ℕ) → ℕ → ℕ
@@ -34,7 +29,7 @@ module _ (test : ℕ → Bool) where
       → sum (λ p. f (stage n p)) 0 (rank test n) ≡ sum f 0 n
   unfolding sum
   sum-packed f zero z = rw (rank-none test)
-  sum-packed f (suc n) z = let ih = sum-packed f n (λ i b. z i (omega arith)) in by-test test n (taken ih) (left ih)
+  sum-packed f (suc n) z = let ih = sum-packed f n (λ i b. z i (omega arith)) in by-bool (test n) (taken ih) (left ih)
     where
       same : (p : ℕ) → In 0 (rank test n) p → f (stage (suc n) p) ≡ f (stage n p)
       same p l = ap f (rw (add-one n) at (list-longer test n 1 p (omega arith)))
@@ -42,30 +37,27 @@ module _ (test : ℕ → Bool) where
       before : sum (λ p. f (stage (suc n) p)) 0 (rank test n) ≡ listedSum f n
       before = sum-cong (λ p. f (stage (suc n) p)) (λ p. f (stage n p)) 0 (rank test n) same
 
-      whole : sum f 0 (suc n) ≡ sum f 0 n + f n
-      whole = rw (zero-add n) at (sum-last f 0 n)
-
       taken : listedSum f n ≡ sum f 0 n → test n ≡ true → listedSum f (suc n) ≡ sum f 0 (suc n)
       taken ih e =
-          let last = rw (zero-add (rank test n)) at (sum-last (λ p. f (stage (suc n) p)) 0 (rank test n)) in
+          let last = sum-end (λ p. f (stage (suc n) p)) (rank test n) in
           let here : f (stage (suc n) (rank test n)) ≡ f n = ap f (stage-of-rank test (suc n) n (omega arith) e) in
-          rw (rank-take test n e) (omega (arith, before, whole))
+          rw (rank-take test n e) (omega (arith, before, sum-end f n))
 
       left : listedSum f n ≡ sum f 0 n → test n ≡ false → listedSum f (suc n) ≡ sum f 0 (suc n)
-      left ih e = rw (rank-leave test n e) (omega (arith, before, whole, z n (omega arith) e))
+      left ih e = rw (rank-leave test n e) (omega (arith, before, sum-end f n, z n (omega arith) e))
 
   -- The rows of the listed stages, in compact order.
-  abbrev pub packed : ℕ → System → System
+  abbrev pub packed : ℕ → Equations → Equations
   packed n A p =
       let row = A (stage n p) in
       record { size = λ q. row .size (stage n q); exit = row .exit; right = row .right }
 
-  module _ (n : ℕ) (A : System) (empty : (i j : ℕ) → i < n → j < n → test j ≡ false → A i .size j ≡ 0) where
+  module _ (n : ℕ) (A : Equations) (empty : (i j : ℕ) → i < n → j < n → test j ≡ false → A i .size j ≡ 0) where
     pub packed-solves : (c : ℕ) (y : ℕ → ℕ) → Solves 0 n A c y → Solves 0 (rank test n) (packed n A) c (λ p. y (stage n p))
     unfolding diag mix
     packed-solves c y s = record { row = row }
       where
-        row : (p : ℕ) → In 0 (rank test n) p → Holds 0 (rank test n) (packed n A p) c (λ p. y (stage n p)) p
+        row : (p : ℕ) → In 0 (rank test n) p → RowHolds 0 (rank test n) (packed n A p) c (λ p. y (stage n p)) p
         row p l =
             let i = stage n p in
             let b : i < n = listed test n p (omega arith) .below in
@@ -87,7 +79,7 @@ module _ (test : ℕ → Bool) where
         go {i = p} {j = q} (subst₂ (λ x y. T (moves A x y)) (sym f) (sym sq) t) (omega arith) (packed-chain c bj q lq sq)
       where
         listed-move : (j : ℕ) → j < n → T (moves A i j) → test j ≡ true
-        listed-move j bj t = by-test test j (λ e. e) (λ e. absurd (omega (arith, ltb→lt zero (A i .size j) t, empty i j b bj e)))
+        listed-move j bj t = by-bool (test j) (λ e. e) (λ e. absurd (omega (arith, ltb→lt zero (A i .size j) t, empty i j b bj e)))
 
     pub packed-out : AllOut 0 n A → AllOut 0 (rank test n) (packed n A)
     packed-out o =

@@ -1,7 +1,7 @@
 -- What "in range" says of the steps for margins, test by test.
 use Prim.Native.Nat.{ℕ, suc, _-_, _<_}
 use mathlib.Core.Bool.{Bool, true, false, not, _&&_, _||_}
-use mathlib.Core.Path.{_≡_, refl, subst, ap}
+use mathlib.Core.Path.{_≡_}
 use mathlib.Core.Logic.{_≢_}
 use native.Mathlib.Omega.{arith}
 use lib.Dec.{T, eqb}
@@ -9,7 +9,7 @@ use lib.Ieee.{Float}
 use lib.Ieee.Fits.{and-l, and-r}
 use borrow.Author.Tests.{ne-eqb}
 use Rattle.definitions.specs.Numbers.{_⊗_, _⊘_, 0·0, 1·0, addInRange, mulInRange, divInRange, sum, sumInRange, all}
-use Rattle.definitions.specs.LeavingRates.{System, downward, shared, column, inRange}
+use Rattle.definitions.specs.LeavingRates.{downward, inRange}
 use Rattle.definitions.specs.Margins.{rank, sumWithInRange, kBefore, h, a, kept, keptSystem, y, known, xAfter, ratioInRange, scaledInRange, backInRange, joinInRange, everyStep, marginsInRange}
 use Rattle.exact.proofs.Bools.{if-out}
 use Rattle.steps.proofs.All.{each}
@@ -156,13 +156,3 @@ module _ (n : ℕ) (t : ℕ → ℕ → Float) (d : ℕ → Float) (k : ℕ → 
 pub margins-range : (n : ℕ) (t : ℕ → ℕ → Float) (d : ℕ → Float) → T (marginsInRange n t d) → EveryStep n t d (kBefore n t d n)
 unfolding marginsInRange
 margins-range n t d r = every-step n t d (kBefore n t d n) r
-
--- The two parts of the engine's test.
-module _ (r : ℕ) (at : ℕ → System) (e : T (inRange r at)) where
-  pub engine-shared : T (shared r at)
-  unfolding inRange
-  engine-shared = and-l (shared r at) (all (column r at) 0 r) e
-
-  pub engine-column : (j : ℕ) → j < r → T (column r at j)
-  unfolding inRange
-  engine-column j l = each (column r at) 0 r j (and-r (shared r at) (all (column r at) 0 r) e) (omega arith) (omega arith)

@@ -16,16 +16,16 @@ use Rattle.exact.proofs.Near.{near-refl, near-eq, near-sym, near-trans, near-gr
 use Rattle.definitions.specs.Numbers.{_⊗_, _⊘_, 0·0, sum, isZero, units}
 use Rattle.definitions.specs.Margins.{h, a, kept}
 use Rattle.rounding.specs.Good.{Good, one·units}
-use Rattle.rounding.proofs.Laws.{sum-good, sum-rounds, product-good, product-rounds, quotient-good, quotient-rounds, quotient-cases, divisor-above-zero, zero-is-good, units-zero, is-zero}
-use Rattle.steps.proofs.Margins.{h-is, a-is, kept-is}
-use Rattle.accuracy.specs.Margins.{GoodMargins, sizesInUnits, marginsInUnits}
-use Rattle.rounding.proofs.Range.{one-pos}
-use Rattle.accuracy.specs.Ratios.{H, Ratios}
+use Rattle.steps.proofs.MarginsSteps.{h-is, a-is, kept-is}
+use Rattle.accuracy.specs.MarginsAccuracy.{GoodMargins, sizesInUnits, marginsInUnits}
+use Rattle.rounding.proofs.Laws.{one-pos, sum-good, sum-rounds, product-good, product-rounds, quotient-good, quotient-rounds, quotient-cases, divisor-above-zero, zero-is-good, units-zero, is-zero}
+use Rattle.accuracy.specs.ExactRatios.{H, ExactRatios}
 use Rattle.accuracy.proofs.MarginsExact.{exactH, exactA, a-pos}
 use Rattle.accuracy.proofs.MarginsStart.{KeptTest}
-use Rattle.accuracy.proofs.MarginsSums.{good-sum, near-sum-over}
+use Rattle.accuracy.proofs.MarginsSums.{near-sum-over}
 use Rattle.accuracy.proofs.MarginsRange.{EveryStep}
 use Rattle.accuracy.proofs.MarginsCounts.{hCount, product-count, h-count}
+use Rattle.rounding.proofs.RoundedSums.{sum-is-good}
 
 -- Over plain numbers: p is x·y over w, and y is near v over D.
 pub near-product :
@@ -53,7 +53,7 @@ near-ratio {e} h a k H A K D m w pa pA eA eK hn an kn =
 -- Good numbers t and d, the exact side over D, and the steps with their k_j, all in range.
 pub record Setting (n : ℕ) (t : ℕ → ℕ → Float) (d : ℕ → Float) (D : ℕ) (K : ℕ → ℕ) (k : ℕ → Float) : Type 0 where
   pub good : GoodMargins n t d
-  pub exact : Ratios n (sizesInUnits t) (marginsInUnits d) D K
+  pub exact : ExactRatios n (sizesInUnits t) (marginsInUnits d) D K
   pub k-is : (i : ℕ) → i < n → k i ≡ h n t d k i ⊘ a n t d k i
   pub range : EveryStep n t d k
 
@@ -92,7 +92,7 @@ module _ {n : ℕ} {t : ℕ → ℕ → Float} {d : ℕ → Float} {D : ℕ} {K 
         near-grow (product-count n i j m) near
 
     earlier-good : Good earlier
-    earlier-good = good-sum 0·0 term 0 zero-is-good i term-good (s .range .ratio i b .earlier)
+    earlier-good = sum-is-good 0·0 term 0 zero-is-good i (λ j l u. term-good j (omega arith)) (s .range .ratio i b .earlier)
 
     earlier-near : Near (i + i * (n + 3)) (units earlier * D) (total (λ j. units (t i j) * K j) 0 i)
     earlier-near =
@@ -109,7 +109,8 @@ module _ {n : ℕ} {t : ℕ → ℕ → Float} {d : ℕ → Float} {D : ℕ} {K 
 
     here-h-good : Good (h n t d k i)
     here-h-good =
-        rw (h-is n t d k i) (good-sum earlier (t i) (suc i) earlier-good (n - suc i) later-good (s .range .ratio i b .later))
+        rw (h-is n t d k i)
+        (sum-is-good earlier (t i) (suc i) earlier-good (n - suc i) (λ j l u. later-good j (omega arith)) (s .range .ratio i b .later))
 
     here-h-near : Near (hCount n i) (units (h n t d k i) * D) (exactH (s .exact) i)
     unfolding H

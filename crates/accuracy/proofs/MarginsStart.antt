@@ -10,16 +10,16 @@ use Rattle.exact.specs.Systems.{Solves}
 use Rattle.exact.specs.Elimination.{Existence}
 use Rattle.exact.proofs.Sums.{sum-cong, sum-scale, zero-sum}
 use Rattle.exact.proofs.Elimination.{existence}
-use Rattle.exact.proofs.Fractions.{product, product-pos, over-product}
+use Rattle.exact.proofs.CommonDenominator.{product, product-pos, over-product}
 use Rattle.rounding.specs.Good.{one·units}
 use Rattle.accuracy.specs.Reduction.{delta}
-use Rattle.accuracy.specs.Ratios.{Ratios}
+use Rattle.accuracy.specs.ExactRatios.{ExactRatios}
 use Rattle.accuracy.proofs.PartialSums.{delta-other}
 use Rattle.accuracy.proofs.MarginsExact.{exactH, diagonal, beside, keptRows, k-zero, h-zero, kept-out, kept-row}
 use Rattle.accuracy.proofs.MarginsJoins.{Part}
-use Rattle.steps.proofs.Compact.{by-test}
+use Rattle.exact.proofs.Cases.{by-bool}
 
-module _ {n : ℕ} {t : ℕ → ℕ → ℕ} {d : ℕ → ℕ} {D : ℕ} {K : ℕ → ℕ} (x : Ratios n t d D K) where
+module _ {n : ℕ} {t : ℕ → ℕ → ℕ} {d : ℕ → ℕ} {D : ℕ} {K : ℕ → ℕ} (x : ExactRatios n t d D K) where
   -- The right side of column j, and the exact solution of the kept system with it: `answer j` over `over j`.
   abbrev pub rightSide : ℕ → ℕ → ℕ
   rightSide j i = delta i j (one·units * D)
@@ -83,15 +83,15 @@ module _ {n : ℕ} {t : ℕ → ℕ → ℕ} {d : ℕ → ℕ} {D : ℕ} {K : �
 
     module _ (tells : KeptTest kept) where
       -- The row of a kept stage i in column j.
-      Row : ℕ → ℕ → Type 0
-      Row i j = diagonal x i * startTable i j ≡ delta i j (one·units * D) * startOver + beside x i (λ l. startTable l j)
+      RowEquation : ℕ → ℕ → Type 0
+      RowEquation i j = diagonal x i * startTable i j ≡ delta i j (one·units * D) * startOver + beside x i (λ l. startTable l j)
 
       row-times :
           (a k d e c r s z x t : ℕ) → a * k ≡ d * (e * c) + r → c * d * s ≡ z → x ≡ k * s → t ≡ r * s → a * x ≡ e * z + t
       row-times a k d e c r s z x t f g i j = omega (arith, ap (λ y. y * s) f, ap (λ y. e * y) g, ap (λ y. a * y) i)
 
-      kept-column : (i j : ℕ) → i < n → j < n → kept i ≡ true → kept j ≡ true → Row i j
-      unfolding Row
+      kept-column : (i j : ℕ) → i < n → j < n → kept i ≡ true → kept j ≡ true → RowEquation i j
+      unfolding RowEquation
       kept-column i j bi bj e f =
           let kept : K i ≡ 0 → rightSide j i ≡ 0 = λ z. absurd (omega (arith, tells .yes-kept i bi e, h-zero x i bi z)) in
           let row = kept-row x (rightSide j) (over j) (answer j) (answer-solves j) i bi kept in
@@ -104,8 +104,8 @@ module _ {n : ℕ} {t : ℕ → ℕ → ℕ} {d : ℕ → ℕ} {D : ℕ} {K : �
           same : (l : ℕ) → In 0 n l → t i l * D * startTable l j ≡ t i l * D * (K l * answer j l) * share j
           same l m = omega (arith, ap (λ v. t i l * D * v) (start-kept l j f))
 
-      unkept-column : (i j : ℕ) → i < n → j < n → kept i ≡ true → kept j ≡ false → Row i j
-      unfolding Row
+      unkept-column : (i j : ℕ) → i < n → j < n → kept i ≡ true → kept j ≡ false → RowEquation i j
+      unfolding RowEquation
       unkept-column i j bi bj e f =
           let d : i ≢ j = λ q. absurd (omega (arith, tells .yes-kept i bi e, tells .not-kept i bi (rw q f))) in
           let left = ap (λ v. diagonal x i * v) (start-unkept i j f) in
@@ -119,16 +119,16 @@ module _ {n : ℕ} {t : ℕ → ℕ → ℕ} {d : ℕ → ℕ} {D : ℕ} {K : �
       unkept-row : (i j : ℕ) → i < n → kept i ≡ false → startTable i j ≡ 0
       unkept-row i j b e =
           let z = k-zero x i b (tells .not-kept i b e) in
-          by-test kept j
+          by-bool (kept j)
           (λ f. start-kept i j f ∙ (omega (arith, ap (λ v. v * answer j i * share j) z)))
           (λ f. start-unkept i j f)
 
       pub start-part : Part x kept startOver startTable
-      unfolding startOver Row
+      unfolding startOver RowEquation
       start-part =
           record {
             positive = mul-pos (x .positive) common-pos;
             empty-row = unkept-row;
             empty-column = λ i j b e. start-unkept i j e;
-            row = λ i j bi bj e. by-test kept j (kept-column i j bi bj e) (unkept-column i j bi bj e);
+            row = λ i j bi bj e. by-bool (kept j) (kept-column i j bi bj e) (unkept-column i j bi bj e);
           }

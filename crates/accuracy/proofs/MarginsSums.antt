@@ -1,6 +1,5 @@
 -- Sums over a common denominator, and sums over the stages that pass a test, counted in roundings.
 use Prim.Native.Nat.{ℕ, zero, suc, _+_, _*_, _<_}
-use native.Mathlib.Nat.{zero-add}
 use native.Mathlib.Omega.{arith}
 use mathlib.Core.Bool.{Bool, true, false, not, _||_, cond}
 use mathlib.Core.Path.{_≡_, refl, ap, _∙_, subst}
@@ -10,21 +9,17 @@ use lib.Ieee.Fits.{and-l, and-r}
 use Rattle.exact.specs.Chains.{In}
 use Rattle.exact.specs.Near.{Near}
 use Rattle.exact.specs.Sums.{sum as total}
-use Rattle.exact.proofs.Sums.{sum-last, sum-scale}
+use Rattle.exact.proofs.Sums.{sum-end, sum-scale}
 use Rattle.exact.proofs.Near.{near-refl, near-eq, near-trans, near-grow, near-scale, near-add, near-sum}
 use Rattle.definitions.specs.Numbers.{addInRange, sum, sumInRange, units}
 use Rattle.definitions.specs.Margins.{sumWith, sumWithInRange}
 use Rattle.rounding.specs.Good.{Good}
 use Rattle.rounding.proofs.Laws.{sum-good, sum-rounds, zero-is-good, units-zero}
-use Rattle.rounding.proofs.Sums.{sum-is-good}
-use Rattle.steps.proofs.Sums.{sumWith-none, sumWith-add, sumWith-pass}
-use Rattle.accuracy.proofs.Operations.{sum-near}
+use Rattle.steps.proofs.FloatSums.{sumWith-none, sumWith-add, sumWith-pass}
+use Rattle.accuracy.proofs.OperationErrors.{sum-near}
 
 -- Over a denominator c, where each term is within e of w_j.
 module _ (start : Float) (f : ℕ → Float) (k : ℕ) (g : Good start) where
-  pub good-sum : (m : ℕ) → ((i : ℕ) → In k m i → Good (f i)) → T (sumInRange start f k m) → Good (sum start f k m)
-  good-sum m h t = sum-is-good start f k g m (λ i l u. h i (record { low = l; high = u })) t
-
   pub near-sum-over :
       {e v : ℕ} (m c : ℕ) (w : ℕ → ℕ) → ((i : ℕ) → In k m i → Good (f i)) → T (sumInRange start f k m)
       → Near e (units start * c) v → ((i : ℕ) → In k m i → Near e (units (f i) * c) (w i))
@@ -59,9 +54,6 @@ module _ (test : ℕ → Bool) (f : ℕ → Float) where
   abbrev counted : ℕ → ℕ
   counted l = cond (test l) (units (f l)) 0
 
-  counted-last : (n : ℕ) → total counted 0 (suc n) ≡ total counted 0 n + counted n
-  counted-last n = rw (zero-add n) at (sum-last counted 0 n)
-
   pub record SumWith (n : ℕ) : Type 0 where
     pub good : Good (sumWith test f n)
     pub near : Near n (units (sumWith test f n)) (total counted 0 n)
@@ -82,7 +74,7 @@ module _ (test : ℕ → Bool) (f : ℕ → Float) where
           let rounds = rw (← next) at (sum-rounds (sumWith test f n) (f n) (before .good) here last .near) in
           let s = units (sumWith test f n) in
           let s′ = units (sumWith test f (suc n)) in
-          let whole : total counted 0 n + units (f n) ≡ total counted 0 (suc n) = omega (arith, counted-last n) in
+          let whole : total counted 0 n + units (f n) ≡ total counted 0 (suc n) = omega (arith, sum-end counted n) in
           record {
             good = rw next (sum-good (before .good) here last);
             near = one-more n s s′ (units (f n)) (total counted 0 n) (total counted 0 (suc n)) rounds (before .near) whole;
@@ -90,7 +82,7 @@ module _ (test : ℕ → Bool) (f : ℕ → Float) where
       go false e before =
           let next = sumWith-pass test f n e in
           let is : counted n ≡ 0 = rw e in
-          let whole : total counted 0 n ≡ total counted 0 (suc n) = omega (arith, counted-last n) in
+          let whole : total counted 0 n ≡ total counted 0 (suc n) = omega (arith, sum-end counted n) in
           record {
             good = rw next (before .good);
             near = rw (next, ← whole) (near-grow (omega arith) (before .near));

@@ -5,27 +5,21 @@ use mathlib.Core.Path.{_≡_, subst}
 use native.Mathlib.Nat.{le-refl}
 use native.Mathlib.Omega.{arith}
 use lib.Dec.{T, eqb→eq, T-not, not-T}
-use lib.Ieee.{Float, nan, inf, fin, eq}
+use lib.Ieee.{Float}
 use Rattle.exact.specs.Elimination.{pivot, EliminationGetsOut}
 use Rattle.exact.proofs.Near.{near-sym, near-pos}
 use Rattle.exact.proofs.Elimination.{elimination-gets-out}
-use Rattle.definitions.specs.Numbers.{finite, isZero, sumInRange, units}
-use Rattle.definitions.specs.LeavingRates.{System, downward, p, sharedBefore}
+use Rattle.definitions.specs.Numbers.{isZero, units}
+use Rattle.definitions.specs.LeavingRates.{System, downward, pivotInRange, p, sharedBefore}
 use Rattle.definitions.specs.Sheet.{system}
 use Rattle.rounding.specs.Good.{Good}
 use Rattle.rounding.proofs.Laws.{is-zero}
-use Rattle.rounding.proofs.Sums.{total-in-range}
-use Rattle.accuracy.specs.LeavingRates.{inUnits, GoodSystem, StagesGetOut}
+use Rattle.accuracy.specs.LeavingRatesAccuracy.{inUnits, GoodSystem, StagesGetOut}
 use Rattle.accuracy.specs.Pivots.{NoPivotIsZeroInSystems, NoPivotIsZero}
 use Rattle.accuracy.proofs.Input.{table-numbers, input-good, input-out}
-use Rattle.accuracy.proofs.LeavingRatesStages.{pivot-sum, pivot-good, pivot-near, stages-good, stages-out}
-
--- A zero is finite, so a number that is not finite is not zero.
-zero-finite : (x : Float) → T (isZero x) → T (finite x)
-unfolding isZero eq finite
-zero-finite nan t = t
-zero-finite (inf s) t = t
-zero-finite (fin s m e) t = tt
+use Rattle.accuracy.proofs.PivotErrors.{finite-in-range, pivot-good, pivot-near}
+use Rattle.accuracy.proofs.LeavingRatesStages.{stages-good, stages-out}
+use Rattle.rounding.proofs.Finite.{zero-finite}
 
 positive-not-zero : {x : Float} → Good x → 0 < units x → T (not (isZero x))
 positive-not-zero {x} g h = not-T (isZero x) (λ t. absurd (let e = eqb→eq (units x) 0 (subst T (is-zero g) t) in omega arith))
@@ -39,7 +33,7 @@ module _
   exact-positive =
       elimination-gets-out k m (inUnits (downward r start k) (λ i. zero)) (stages-out r start g q t o (λ i. zero) k m e l) .0
 
-  module _ (s : T (sumInRange (downward r start k .s k) (downward r start k .t k) (suc k) m)) where
+  module _ (s : T (pivotInRange r (downward r start k) k)) where
     pub good-pivot : Good (p r (downward r start) k)
     good-pivot = pivot-good r (downward r start) k m e (stages-good r start g q t k m e l) s
 
@@ -53,8 +47,7 @@ module _
     where
       none : T (isZero (p r (downward r start) k)) → ⊥
       none z =
-          let s = total-in-range (downward r start k .s k) (downward r start k .t k) (suc k) m
-          (rw (pivot-sum r (downward r start) k m e) at (zero-finite (p r (downward r start) k) z)) in
+          let s = finite-in-range r (downward r start) k (zero-finite (p r (downward r start) k) z) in
           T-not (isZero (p r (downward r start) k)) (positive-not-zero (good-pivot s) (positive-pivot s)) z
 
 pub no-pivot-is-zero-in-systems : NoPivotIsZeroInSystems

@@ -4,7 +4,7 @@ use mathlib.Core.Path.{_≡_, refl, sym, ap, _∙_, subst}
 use mathlib.Core.Logic.{_≢_, inr}
 use mathlib.Core.Bool.{Bool, true, false, not, cond}
 use Prim.Native.Nat.{ℕ, _+_, _*_, _/_, _^_, _<_, max}
-use native.Mathlib.Nat.{mul-zero, mul-pos, one-le-pow, le-max-left, le-antisymm, le-of-eq}
+use native.Mathlib.Nat.{mul-zero, mul-pos, le-max-left, le-antisymm, le-of-eq}
 use native.Mathlib.Omega.{arith}
 use lib.Dec.{T, T-not, eqb, lit<}
 use lib.IntN.{pos}
@@ -12,20 +12,21 @@ use lib.Ieee.{Float}
 use Rattle.exact.specs.Chains.{In}
 use Rattle.exact.specs.Near.{Near, base, next}
 use Rattle.exact.specs.Sums.{sum}
-use Rattle.exact.specs.Systems.{System, diag, mix, AllOut}
+use Rattle.exact.specs.Systems.{Equations, diag, mix, AllOut}
 use Rattle.exact.specs.Comparison.{Comparison}
 use Rattle.exact.proofs.Comparison.{comparison}
-use Rattle.exact.proofs.Fractions.{product, product-pos, over-product}
-use Rattle.exact.proofs.Sums.{sum-add, zero-sum}
+use Rattle.exact.proofs.CommonDenominator.{product, product-pos, over-product}
+use Rattle.exact.proofs.Sums.{sum-add, zero-sum, sum-factor}
 use Rattle.definitions.specs.Numbers.{units}
 use Rattle.definitions.specs.Fractions.{Fraction, _≈_, whole, _*ᶠ_, total}
 use Rattle.definitions.specs.Matrix.{Stage, everyStage, Inverse}
 use Rattle.definitions.specs.Accuracy.{growth, Within}
 use Rattle.rounding.specs.Good.{Good, one·units}
 use Rattle.accuracy.specs.Reduction.{plusPart, minusPart, Ratio, delta, RowForm, Columns, Regular, Apart, Reduction, SystemReduction}
-use Rattle.accuracy.proofs.PartialSums.{delta-other, delta-times, sum-delta, sum-mix, sum-factor}
-use Rattle.rounding.proofs.Range.{one-pos, good-finite}
-use Rattle.accuracy.proofs.Fractions.{times, own-ratio, ratio-as, ratio-carry, ratios-agree, ratio-of-equal, same-ratio, ratio-scale, ratio-mul, plain-mul, ratio-total, plain-le, plain-sign, whole-ratio, max-one, value-ratio}
+use Rattle.accuracy.proofs.PartialSums.{delta-other, delta-times, sum-delta, sum-mix}
+use Rattle.rounding.proofs.Laws.{one-pos, good-finite}
+use Rattle.accuracy.proofs.SignedFractions.{times, own-ratio, ratio-as, ratio-carry, ratios-agree, ratio-of-equal, same-ratio, ratio-scale, ratio-mul, plain-mul, ratio-total, plain-le, plain-sign, whole-ratio, max-one, value-ratio}
+use Rattle.exact.proofs.Near.{base-pos}
 
 -- The entry (i, j) of the identity.
 delta-whole : (i j : ℕ) → Ratio (cond (eqb i j) (whole 1) (whole 0)) (delta i j 1) 0 1
@@ -54,7 +55,7 @@ abbrev applied : ℕ → (ℕ → Bool) → (ℕ → ℕ → Fraction) → (ℕ 
 applied n on A Y i = total on (λ k. A i k *ᶠ Y k) n
 
 -- (P − Q)/D at each stage that takes part.
-pub record Column (n : ℕ) (on : ℕ → Bool) (Y : ℕ → Fraction) (P Q : ℕ → ℕ) (D : ℕ) : Type 0 where
+pub record SignedColumn (n : ℕ) (on : ℕ → Bool) (Y : ℕ → Fraction) (P Q : ℕ → ℕ) (D : ℕ) : Type 0 where
   pub positive : 0 < D
   pub ratio : (k : ℕ) → Stage n on k → Ratio (Y k) (P k) (Q k) D
 
@@ -70,7 +71,7 @@ module _
         let ne : i ≢ k = λ e. T-not (on k) o (subst (λ j. T (on j)) e (s .part)) in
         rw (delta-other i k (a i) ne, apart i k s l o) (omega arith)
 
-    module _ (Y : ℕ → Fraction) (P Q : ℕ → ℕ) (D : ℕ) (y : Column n on Y P Q D) (i j : ℕ) (s : Stage n on i) where
+    module _ (Y : ℕ → Fraction) (P Q : ℕ → ℕ) (D : ℕ) (y : SignedColumn n on Y P Q D) (i j : ℕ) (s : Stage n on i) where
       image : Ratio (applied n on A Y i) (added n a t P Q i) (added n a t Q P i) (c i * D)
       image =
           ratio-as
@@ -94,7 +95,7 @@ module _
           omega (arith, ratios-agree image (ratio-of-equal (applied n on A Y i) e (delta-whole i j)))
 
 -- Any column of fractions, over the product of its denominators.
-any-column : (n : ℕ) (on : ℕ → Bool) (Y : ℕ → Fraction) → (P : ℕ → ℕ) × (Q : ℕ → ℕ) × (D : ℕ) × Column n on Y P Q D
+any-column : (n : ℕ) (on : ℕ → Bool) (Y : ℕ → Fraction) → (P : ℕ → ℕ) × (Q : ℕ → ℕ) × (D : ℕ) × SignedColumn n on Y P Q D
 any-column n on Y =
     let d : ℕ → ℕ = λ k. Y k .den in
     let D = product d 0 n in (
@@ -112,10 +113,6 @@ pub growth-ratio : (E : ℕ) → Ratio (growth E) (next ^ E) 0 (base ^ E)
 unfolding growth base next
 growth-ratio E = record { across = refl }
 
-base-power : (E : ℕ) → 0 < base ^ E
-unfolding base
-base-power E = one-le-pow E (2 ^ 53) (lit< tt)
-
 -- z/d, for a positive d.
 abbrev pub quotient : ℕ → ℕ → Fraction
 quotient z d = record { num = pos z; den = max 1 d; positive = le-max-left 1 d }
@@ -131,8 +128,8 @@ entry-within E x z d l g h =
       number = good-finite g;
       x-sign = plain-sign one-pos v;
       y-sign = plain-sign l r;
-      upper = plain-le one-pos (mul-pos l (base-power E)) v (plain-mul r (growth-ratio E)) (omega (arith, h .upper));
-      lower = plain-le l (mul-pos one-pos (base-power E)) r (plain-mul v (growth-ratio E)) (omega (arith, h .lower));
+      upper = plain-le one-pos (mul-pos l (base-pos E)) v (plain-mul r (growth-ratio E)) (omega (arith, h .upper));
+      lower = plain-le l (mul-pos one-pos (base-pos E)) r (plain-mul v (growth-ratio E)) (omega (arith, h .lower));
     }
 
 -- ---- the rule
@@ -148,7 +145,7 @@ module _
     (a : ℕ → ℕ) (t : ℕ → ℕ → ℕ) (c : ℕ → ℕ) (Z : ℕ → ℕ) (z : ℕ → ℕ → ℕ)
     (rows : RowForm n A a t c) (apart : Apart n on t) (columns : Columns n on a t c Z z)
   where
-    X-column : (j : ℕ) → Stage n on j → Column n on (λ i. quotient (z j i) (Z j)) (z j) (λ i. 0) (Z j)
+    X-column : (j : ℕ) → Stage n on j → SignedColumn n on (λ i. quotient (z j i) (Z j)) (z j) (λ i. 0) (Z j)
     X-column j s =
         let l = columns .positive j s in
         record { positive = l; ratio = λ k o. quotient-ratio (z j k) (Z j) l }
@@ -161,7 +158,7 @@ module _
 
     -- Z·P = Z·Q + D·z for a column of another inverse, from regularity.
     column-unique :
-        Regular n on a t → (Y : ℕ → Fraction) (P Q : ℕ → ℕ) (D j : ℕ) → Column n on Y P Q D → Stage n on j
+        Regular n on a t → (Y : ℕ → Fraction) (P Q : ℕ → ℕ) (D j : ℕ) → SignedColumn n on Y P Q D → Stage n on j
         → ((i : ℕ) → Stage n on i → applied n on A Y i ≈ cond (eqb i j) (whole 1) (whole 0))
         → (i : ℕ) → Stage n on i → P i * Z j ≡ Q i * Z j + z j i * D
     unfolding Regular added
@@ -194,7 +191,7 @@ reduction n on E A x a t c Z z rows apart columns regular table =
     }
 
 -- ---- a system that gets out
-pub system-regular : (n : ℕ) (S : System) → AllOut 0 n S → Regular n everyStage (λ i. diag 0 n (S i)) (λ i. S i .size)
+pub system-regular : (n : ℕ) (S : Equations) → AllOut 0 n S → Regular n everyStage (λ i. diag 0 n (S i)) (λ i. S i .size)
 unfolding Regular Comparison mix
 system-regular n S out p q same i s =
     le-antisymm

@@ -13,11 +13,11 @@ use Rattle.definitions.specs.Fractions.{Fraction, -ᶠ_, _+ᶠ_, _*ᶠ_, _/ᶠ_
 use Rattle.definitions.specs.Matrix.{rowSum, hFrom, ratioBefore, marginSum, exactSize, exactDiagonal, matrix}
 use Rattle.rounding.specs.Good.{one·units}
 use Rattle.accuracy.specs.Reduction.{Ratio, delta}
-use Rattle.accuracy.specs.Ratios.{H, Ratios}
+use Rattle.accuracy.specs.ExactRatios.{H, ExactRatios}
 use Rattle.accuracy.specs.RowForms.{InUnits, LeavingRatesRows, MarginsRows}
 use Rattle.accuracy.proofs.PartialSums.{not-equal, sum-except, sum-below, sum-above}
-use Rattle.rounding.proofs.Range.{one-pos}
-use Rattle.accuracy.proofs.Fractions.{times, ratio-as, ratio-carry, ratio-neg, plain-both, plain-scale, plain-add, plain-mul, plain-div, plain-total, value-ratio}
+use Rattle.rounding.proofs.Laws.{one-pos}
+use Rattle.accuracy.proofs.SignedFractions.{times, ratio-as, ratio-carry, ratio-neg, plain-both, plain-scale, plain-add, plain-mul, plain-div, plain-total, value-ratio}
 
 -- A row with its diagonal entry and, off it, minus the size f_ij.
 row-entry :
@@ -58,7 +58,7 @@ module _
         let b = times D (sum-above (t i) i n l) in
         ratio-as (plain-add low (plain-scale D high)) (omega arith) refl refl
 
-    module _ (D : ℕ) (K : ℕ → ℕ) (k : 0 < u) (r : Ratios n t d D K) where
+    module _ (D : ℕ) (K : ℕ → ℕ) (k : 0 < u) (r : ExactRatios n t d D K) where
       uD : 0 < u * D
       uD = mul-pos k (r .positive)
 

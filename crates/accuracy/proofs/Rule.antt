@@ -1,6 +1,5 @@
 -- The accuracy rule of document 01, for both readings.
-use Prim.Native.Nat.{ℕ, zero, _*_, _^_, _<_}
-use native.Mathlib.Nat.{pow-suc, pow-zero, one-mul}
+use Prim.Native.Nat.{ℕ, zero, _*_, _<_}
 use native.Mathlib.Omega.{arith}
 use mathlib.Core.Bool.{Bool, true, false, _||_}
 use mathlib.Core.List.{List}
@@ -9,7 +8,7 @@ use mathlib.Core.Path.{_≡_, refl, sym, subst}
 use lib.Dec.{T, eqb, eqb→eq}
 use lib.ListN.{length}
 use lib.Ieee.{Float}
-use Rattle.exact.specs.Systems.{System, withRight, Solves, AllOut}
+use Rattle.exact.specs.Systems.{Equations, withRight, Solves, AllOut}
 use Rattle.exact.specs.Elimination.{Existence}
 use Rattle.exact.proofs.Elimination.{existence}
 use Rattle.exact.proofs.Near.{near-grow}
@@ -21,26 +20,24 @@ use Rattle.definitions.specs.Table.{entry, everyStepInRange}
 use Rattle.definitions.specs.Accuracy.{Binary64, Accurate, AccuracyRule}
 use Rattle.definitions.specs.Questions.{pass, question1, question2, question3, question4, question10, numberQuestions, tableInput, tableQuestions, Accepted, _then_}
 use Rattle.rounding.specs.Good.{one·units}
-use Rattle.accuracy.specs.LeavingRates.{inUnits, identityColumn, Computed, EngineWithin, EngineAccuracy}
+use Rattle.accuracy.specs.LeavingRatesAccuracy.{inUnits, identityColumn, Computed, EngineWithin, EngineAccuracy}
 use Rattle.accuracy.specs.Reduction.{delta, SystemColumns, NearTable}
-use Rattle.accuracy.specs.Ratios.{RatiosExist}
+use Rattle.accuracy.specs.ExactRatios.{RatiosExist}
 use Rattle.accuracy.specs.RowForms.{InUnits}
-use Rattle.accuracy.specs.Readings.{LeavingRatesReduced, MarginsReduced}
-use Rattle.accuracy.specs.Margins.{GoodMargins, sizesInUnits, marginsInUnits, MarginsAccuracy}
-use Rattle.steps.proofs.Questions.{then-first, then-next, ask-yes}
+use Rattle.accuracy.specs.ReducedReadings.{LeavingRatesReduced, MarginsReduced}
+use Rattle.accuracy.specs.MarginsAccuracy.{GoodMargins, sizesInUnits, marginsInUnits, MarginsAccuracy}
+use Rattle.steps.proofs.QuestionLaws.{then-first, then-next, ask-yes}
 use Rattle.accuracy.proofs.Input.{table-numbers, size-is, diagonal-is, input-good, input-positive, input-out}
-use Rattle.accuracy.proofs.Range.{table-shared, table-column}
-use Rattle.accuracy.proofs.LeavingRates.{engine-accuracy}
-use Rattle.accuracy.proofs.Ratios.{ratios-exist}
-use Rattle.accuracy.proofs.Readings.{leaving-rates-reduced, margins-reduced}
-use Rattle.accuracy.proofs.Margins.{margins-accuracy}
-
-cube : (n : ℕ) → n ^ 3 ≡ n * n * n
-cube n = rw (pow-suc, pow-suc, pow-suc, pow-zero, one-mul)
+use Rattle.accuracy.proofs.LeavingRatesRange.{table-shared, table-column}
+use Rattle.accuracy.proofs.LeavingRatesAccuracy.{engine-accuracy}
+use Rattle.accuracy.proofs.ExactRatios.{ratios-exist}
+use Rattle.accuracy.proofs.ReducedReadings.{leaving-rates-reduced, margins-reduced}
+use Rattle.accuracy.proofs.MarginsAccuracy.{margins-accuracy}
+use Rattle.exact.proofs.Run.{cube}
 
 -- Reading 1: the exact solution of each column exists, and the engine's quotients are near it.
 module _ (n : ℕ) (sheet : List Float) (fit : Binary64 sheet) (e : numberQuestions 1 n sheet ≡ pass) where
-  equations : System
+  equations : Equations
   equations = inUnits (system n sheet) (λ i. zero)
 
   gets-out : AllOut 0 n equations

@@ -1,8 +1,8 @@
-pub mod LeavingRates
+pub mod LeavingRatesAccuracy
 pub mod Pivots
 pub mod Reduction
-pub mod Ratios
+pub mod ExactRatios
 pub mod RowForms
-pub mod Scaled
-pub mod Readings
-pub mod Margins
+pub mod ExactScaled
+pub mod ReducedReadings
+pub mod MarginsAccuracy

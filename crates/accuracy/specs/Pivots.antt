@@ -1,22 +1,22 @@
 -- "After question 9 no pivot is zero, as long as every step before it is in range" (document 01, after the questions).
-use Prim.Native.Nat.{ℕ, zero, suc, _*_, _-_, _<_}
+use Prim.Native.Nat.{ℕ, zero, _*_, _<_}
 use mathlib.Core.Bool.{not}
 use mathlib.Core.List.{List}
 use mathlib.Core.Path.{_≡_}
 use lib.Dec.{T}
 use lib.Ieee.{Float}
-use Rattle.definitions.specs.Numbers.{isZero, sumInRange}
-use Rattle.definitions.specs.LeavingRates.{System, downward, p, sharedBefore}
+use Rattle.definitions.specs.Numbers.{isZero}
+use Rattle.definitions.specs.LeavingRates.{System, downward, pivotInRange, p, sharedBefore}
 use Rattle.definitions.specs.Sheet.{system}
 use Rattle.definitions.specs.Questions.{pass, tableInput}
 use Rattle.definitions.specs.Accuracy.{Binary64}
 use Rattle.rounding.specs.Good.{Good}
-use Rattle.accuracy.specs.LeavingRates.{GoodSystem, StagesGetOut}
+use Rattle.accuracy.specs.LeavingRatesAccuracy.{GoodSystem, StagesGetOut}
 
 -- The pivot of stage k is not zero, whether or not its own additions are in range; it is good where they are.
 pub record PivotHolds (r : ℕ) (at : ℕ → System) (k : ℕ) : Type 0 where
   pub not-zero : T (not (isZero (p r at k)))
-  pub good : T (sumInRange (at k .s k) (at k .t k) (suc k) (r - suc k)) → Good (p r at k)
+  pub good : T (pivotInRange r (at k) k) → Good (p r at k)
 
 -- Theorem, for every system of good numbers that gets out: each pivot, from the steps before it alone.
 unfoldable pub NoPivotIsZeroInSystems : Type 0

@@ -8,7 +8,7 @@ use lib.IntN.{ℤ, pos, negsuc}
 use lib.Ieee.{Float}
 use Rattle.exact.specs.Near.{Near}
 use Rattle.exact.specs.Sums.{sum}
-use Rattle.exact.specs.Systems.{System, diag, Solves, AllOut, withRight}
+use Rattle.exact.specs.Systems.{Equations, diag, Solves, AllOut, withRight}
 use Rattle.definitions.specs.Numbers.{units}
 use Rattle.definitions.specs.Fractions.{Fraction}
 use Rattle.definitions.specs.Matrix.{Stage, everyStage}
@@ -74,14 +74,14 @@ Reduction =
     → Accurate n on E A x
 
 -- The columns as solutions of one system, whose right side is column j of the identity, times c_i.
-pub record SystemColumns (n : ℕ) (S : System) (c : ℕ → ℕ) (Z : ℕ → ℕ) (z : ℕ → ℕ → ℕ) : Type 0 where
+pub record SystemColumns (n : ℕ) (S : Equations) (c : ℕ → ℕ) (Z : ℕ → ℕ) (z : ℕ → ℕ → ℕ) : Type 0 where
   pub positive : (j : ℕ) → j < n → 0 < Z j
   pub solves : (j : ℕ) → j < n → Solves 0 n (withRight S (λ i. delta i j (c i))) (Z j) (z j)
 
 -- Theorem: the rule for a system that gets out.
 unfoldable pub SystemReduction : Type 0
 SystemReduction =
-    (n E : ℕ) (A : ℕ → ℕ → Fraction) (x : ℕ → ℕ → Float) (S : System) (c : ℕ → ℕ) (Z : ℕ → ℕ) (z : ℕ → ℕ → ℕ)
+    (n E : ℕ) (A : ℕ → ℕ → Fraction) (x : ℕ → ℕ → Float) (S : Equations) (c : ℕ → ℕ) (Z : ℕ → ℕ) (z : ℕ → ℕ → ℕ)
     → RowForm n A (λ i. diag 0 n (S i)) (λ i. S i .size) c
     → AllOut 0 n S
     → SystemColumns n S c Z z

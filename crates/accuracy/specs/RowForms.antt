@@ -10,7 +10,7 @@ use Rattle.definitions.specs.Sheet.{size, diagonal}
 use Rattle.definitions.specs.Matrix.{matrix}
 use Rattle.rounding.specs.Good.{Good, one·units}
 use Rattle.accuracy.specs.Reduction.{RowForm}
-use Rattle.accuracy.specs.Ratios.{H, Ratios}
+use Rattle.accuracy.specs.ExactRatios.{H, ExactRatios}
 
 -- A sheet in units of 2^-1074: the sizes t_ij off the diagonal, with any t_ii, and the diagonal's parameters d_i.
 pub record InUnits (n : ℕ) (sheet : List Float) (t : ℕ → ℕ → ℕ) (d : ℕ → ℕ) : Type 0 where
@@ -31,5 +31,5 @@ unfoldable pub MarginsRows : Type 0
 MarginsRows =
     (n : ℕ) (sheet : List Float) (t : ℕ → ℕ → ℕ) (d : ℕ → ℕ) (D : ℕ) (K : ℕ → ℕ)
     → InUnits n sheet t d
-    → Ratios n t d D K
+    → ExactRatios n t d D K
     → RowForm n (matrix 2 n sheet) (λ i. d i * D + H n t D K i + t i i * D) (λ i j. t i j * D) (λ i. one·units * D)

@@ -3,7 +3,7 @@ use lib.Ieee.{add, sub, mul, div, lt, le, eq, neg, round, ofBits, toBits}
 use Rattle.exact.specs.Chains.{any, outWithin}
 use Rattle.definitions.specs.Numbers.{finite, isZero, addInRange, mulInRange, divInRange, addProductInRange, sum, sumInRange, all, units}
 use Rattle.definitions.specs.Tables.{list, rows, stored, storedTable}
-use Rattle.definitions.specs.LeavingRates.{pivot, multiplier, eliminate, begun, downward, p, u, m↓, m↑, b↓, b↑, solved, quotient, rowInRange, stageInRange, sharedBefore, shared, columnBefore, columnUpward, column, inRange}
+use Rattle.definitions.specs.LeavingRates.{pivot, multiplier, eliminate, begun, downward, p, u, m↓, m↑, b↓, b↑, solved, quotient, rowInRange, stageInRange, sharedBefore, shared, columnBefore, columnUpward, column, inRange, pivotInRange}
 use Rattle.definitions.specs.Margins.{stagesWith, rank, compact, sumWith, sumWithInRange, hOf, kBefore, h, a, kept, scaled, keptSystem, y, known, joined, xAfter, ratioInRange, scaledInRange, backInRange, joinInRange, everyStep, entry, marginsInRange}
 use Rattle.definitions.specs.Sheet.{size, diagonal, system, allowance}
 use Rattle.definitions.specs.Table.{entry as entry·Table, everyStepInRange}
@@ -18,5 +18,5 @@ use Rattle.definitions.specs.ExactExamples.{sheetH, MatrixOfH, Product, 
 use Rattle.definitions.specs.FileExamples.{DwellPrintsP, LongestFile, FileClaim, files}
 
 unfoldable pub computing : Unit {0}
-unfolding add sub mul div lt le eq neg round ofBits toBits any outWithin finite isZero addInRange mulInRange divInRange addProductInRange sum sumInRange all units list rows stored storedTable pivot multiplier eliminate begun downward p u m↓ m↑ b↓ b↑ solved quotient rowInRange stageInRange sharedBefore shared columnBefore columnUpward column inRange stagesWith rank compact sumWith sumWithInRange hOf kBefore h a kept scaled keptSystem y known joined xAfter ratioInRange scaledInRange backInRange joinInRange everyStep entry marginsInRange size diagonal system allowance entry·Table everyStepInRange askRow askRows askStages question1 question2 question3 question4 question5 question6 rightSign question7 largeEnough question8 moves leaves getsOut question9 question10 numberQuestions tableInput tableQuestions entryInput entryQuestions Accepted tableAnswer table tableArea entryAnswer numerator value total rowSum hFrom ratioBefore marginSum exactSize exactDiagonal matrix Inverse little recordLength recordKind payload rest wholeRecord headReading headStages goodHead goodRow rowQuestions fileQuestions words rowWords fileWords fileAnswer fileWordArea fileNumbers fileNumberArea fileLength longestFile text digits decimal hexadecimal refusedLine secondsLine entryLine rowLines tableLines tableText fileText dwellText outcome Claim starred further sheetH MatrixOfH Product ExactTable ExactTables DwellPrintsP LongestFile FileClaim files
+unfolding add sub mul div lt le eq neg round ofBits toBits any outWithin finite isZero addInRange mulInRange divInRange addProductInRange sum sumInRange all units list rows stored storedTable pivot pivotInRange multiplier eliminate begun downward p u m↓ m↑ b↓ b↑ solved quotient rowInRange stageInRange sharedBefore shared columnBefore columnUpward column inRange stagesWith rank compact sumWith sumWithInRange hOf kBefore h a kept scaled keptSystem y known joined xAfter ratioInRange scaledInRange backInRange joinInRange everyStep entry marginsInRange size diagonal system allowance entry·Table everyStepInRange askRow askRows askStages question1 question2 question3 question4 question5 question6 rightSign question7 largeEnough question8 moves leaves getsOut question9 question10 numberQuestions tableInput tableQuestions entryInput entryQuestions Accepted tableAnswer table tableArea entryAnswer numerator value total rowSum hFrom ratioBefore marginSum exactSize exactDiagonal matrix Inverse little recordLength recordKind payload rest wholeRecord headReading headStages goodHead goodRow rowQuestions fileQuestions words rowWords fileWords fileAnswer fileWordArea fileNumbers fileNumberArea fileLength longestFile text digits decimal hexadecimal refusedLine secondsLine entryLine rowLines tableLines tableText fileText dwellText outcome Claim starred further sheetH MatrixOfH Product ExactTable ExactTables DwellPrintsP LongestFile FileClaim files
 computing = tt

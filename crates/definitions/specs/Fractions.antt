@@ -46,7 +46,9 @@ x *ᶠ y = record { num = x .num *ℤ y .num; den = x .den * y .den; positive = 
 
 -- x / y for a positive y.
 abbrev pub _/ᶠ_ : Fraction → Fraction → Fraction
-x /ᶠ y = record { num = x .num *ℤ pos (y .den); den = max 1 (x .den * natAbs (y .num)); positive = le-max-left 1 (x .den * natAbs (y .num)) }
+x /ᶠ y =
+    let d = x .den * natAbs (y .num) in
+    record { num = x .num *ℤ pos (y .den); den = max 1 d; positive = le-max-left 1 d }
 
 -- "Every finite binary64 number is a whole number over 2^1074."
 abbrev pub signed : Bool → ℕ → ℤ

@@ -16,6 +16,10 @@ pub record System : Type 0 where
 unfoldable pub pivot : ℕ → System → ℕ → Float
 pivot r a k = sum (a .s k) (a .t k) (suc k) (r - suc k)
 
+-- Its additions in range (question 10).
+unfoldable pub pivotInRange : ℕ → System → ℕ → Bool
+pivotInRange r a k = sumInRange (a .s k) (a .t k) (suc k) (r - suc k)
+
 -- "m = t_ik / p_k"
 unfoldable pub multiplier : ℕ → System → ℕ → ℕ → Float
 multiplier r a k i = a .t i k ⊘ pivot r a k
@@ -80,7 +84,7 @@ module _ (r : ℕ) (at : ℕ → System) where
 
   -- the pivot of stage k and its rows;
   unfoldable pub stageInRange : ℕ → Bool
-  stageInRange k = sumInRange (at k .s k) (at k .t k) (suc k) (r - suc k) && all (rowInRange k) (suc k) (r - suc k)
+  stageInRange k = pivotInRange r (at k) k && all (rowInRange k) (suc k) (r - suc k)
 
   -- the stages before k; and all of these with the upward multipliers.
   unfoldable pub sharedBefore : ℕ → Bool

@@ -59,7 +59,8 @@ module _ (n : ℕ) (t : ℕ → ℕ → Float) (d : ℕ → Float) (k : ℕ → 
   unfoldable pub kept : ℕ → Bool
   kept i = not (isZero (h i))
 
-  -- "For kept i ≠ j the new off-diagonal size is t_ij·k_j. The new leaving rate of a kept i sums t_ij·(d_j / a_j) over every j > i, kept or not."
+  -- "For kept i ≠ j the new off-diagonal size is t_ij·k_j. The new leaving rate of a kept i sums t_ij·(d_j / a_j) over every
+  -- j > i, kept or not."
   unfoldable pub scaled : System
   scaled = record { t = λ i j. t i j ⊗ k j; s = λ i. sum 0·0 (λ j. t i j ⊗ (d j ⊘ a j)) (suc i) (n - suc i) }
 

@@ -26,7 +26,8 @@ abbrev pub ask : Bool → ℕ → ℕ → ℕ → Asked
 ask true number row column = pass
 ask false number row column = refuse number row column
 
--- "With the first bad place; the search goes row by row and stops there": m places of row i from column j on, then m rows of n from row i on.
+-- "With the first bad place; the search goes row by row and stops there": m places of row i from column j on, then m rows of n
+-- from row i on.
 unfoldable pub askRow : (ℕ → ℕ → Bool) → ℕ → ℕ → ℕ → ℕ → Asked
 askRow good number i j zero = pass
 askRow good number i j (suc m) = ask (good i j) number (suc i) (suc j) then askRow good number i (suc j) m
@@ -117,6 +118,7 @@ entryInput reading n sheet i j =
 unfoldable pub entryQuestions : ℕ → ℕ → List Float → ℕ → ℕ → Asked
 entryQuestions reading n sheet i j = entryInput reading n sheet i j then question10 reading n sheet
 
--- "A sheet is accepted where every question below that concerns its call is answered yes; where no call is named, the call is that for the whole table, lent room enough."
+-- "A sheet is accepted where every question below that concerns its call is answered yes; where no call is named, the call is
+-- that for the whole table, lent room enough."
 unfoldable pub Accepted : ℕ → ℕ → List Float → Type 0
 Accepted reading n sheet = tableQuestions reading n sheet (n * n) ≡ pass

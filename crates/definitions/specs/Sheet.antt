@@ -1,9 +1,9 @@
 -- A flow sheet of n stages (document 01, "The sheet and its two readings"): n × n numbers, row by row.
 -- Stage i of the paper is i - 1 here.
 use Prim.Native.Nat.{ℕ, _+_, _*_, _^_}
-use mathlib.Core.Bool.{cond}
+use mathlib.Core.Bool.{not, _&&_, cond}
 use mathlib.Core.List.{List}
-use lib.Dec.{eqb}
+use lib.Dec.{eqb, ltb}
 use lib.ListN.{getD}
 use lib.Ieee.{Float, nan}
 use Rattle.definitions.specs.Numbers.{_⊕_, _⊖_, 0·0}
@@ -14,12 +14,14 @@ abbrev pub place : ℕ → List Float → ℕ → ℕ → Float
 place n sheet i j = getD sheet (i * n + j) nan
 
 -- "Write t_ij for its size": off the diagonal the place holds minus the rate. "A zero of either sign counts as plus zero."
+-- A size stands between two different stages of the sheet; elsewhere there is no rate, and it is plus zero.
 unfoldable pub size : ℕ → List Float → ℕ → ℕ → Float
-size n sheet i j = 0·0 ⊖ place n sheet i j
+size n sheet i j = cond (ltb i n && ltb j n && not (eqb i j)) (0·0 ⊖ place n sheet i j) 0·0
 
 -- The diagonal's parameter: the leaving rate s_i (reading 1) or the margin d_i (reading 2), either zero as plus zero.
+-- Past the last stage there is none, and it is plus zero.
 unfoldable pub diagonal : ℕ → List Float → ℕ → Float
-diagonal n sheet i = place n sheet i i ⊕ 0·0
+diagonal n sheet i = cond (ltb i n) (place n sheet i i ⊕ 0·0) 0·0
 
 unfoldable pub system : ℕ → List Float → System
 system n sheet = record { t = size n sheet; s = diagonal n sheet }

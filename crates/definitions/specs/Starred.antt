@@ -94,7 +94,8 @@ further =
     ∷ line 2 2 (num 4 ∷ minus (num 3) ∷ minus (num 1) ∷ num 1 ∷ [])
     (gives 96 (word 0x3fca1f58d0fac689 ∷ word 0x3fdb6db6db6db6dd ∷ word 0x3fc2492492492493 ∷ num 1 ∷ []))
     -- t/a, not t·(1/a)
-    ∷ line 2 2 (num 5 ∷ num 0 ∷ minus (num 3) ∷ num 1 ∷ []) (gives 96 (word 0x3fc999999999999a ∷ num 0 ∷ word 0x3fe3333333333333 ∷ num 1 ∷ []))
+    ∷ line 2 2 (num 5 ∷ num 0 ∷ minus (num 3) ∷ num 1 ∷ [])
+    (gives 96 (word 0x3fc999999999999a ∷ num 0 ∷ word 0x3fe3333333333333 ∷ num 1 ∷ []))
     -- sums over known stages rise in j, whatever order they joined in
     ∷ line 2 4 (num 1 ∷ num 0 ∷ num 0 ∷ num 0
     ∷ minus (num 7) ∷ num 3 ∷ num 0 ∷ minus (num 3)

@@ -1,4 +1,5 @@
--- Lists and tables of numbers, by rows. `stored` changes no number in range: it only has each one computed once, so that the definitions run.
+-- Lists and tables of numbers, by rows. `stored` changes no number in range: it only has each one computed once, so that the
+-- definitions run.
 use Prim.Native.Nat.{ℕ, zero, suc}
 use mathlib.Core.List.{List, [], _∷_, _++_}
 use lib.ListN.{getD}

@@ -1,8 +1,1 @@
-pub mod Places
-pub mod Operators
-pub mod Vectors
-pub mod Steps
-pub mod Told
-pub mod ByFours
-pub mod Four
-pub mod Contracts
+pub mod Quotients

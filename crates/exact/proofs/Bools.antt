@@ -1,4 +1,5 @@
--- Laws of tests. The kit's `lib.Ieee.Fits` has and-i, and-l and and-r: a conjunction from its parts, and each part from it.
+-- Laws of tests. The kit has more: `lib.Ieee.Fits` and-i, and-l and and-r (a conjunction from its parts, and each part from it),
+-- `lib.Ieee.Bits` is-true and is-false, `mathlib.Core.Bool` the equations with true and false.
 use mathlib.Core.Path.{_≡_, refl}
 use mathlib.Core.Logic.{_⊎_, inl, inr}
 use mathlib.Core.Bool.{Bool, true, false, not, _&&_, _||_}
@@ -8,10 +9,6 @@ use lib.Dec.{T}
 use Rattle.exact.proofs.Cases.{by-bool}
 
 -- ---- truth and value
-pub is-true : (a : Bool) → T a → a ≡ true
-is-true true t = refl
-is-true false t = absurd t
-
 pub holds : {a : Bool} → a ≡ true → T a
 holds e = rw e tt
 
@@ -55,22 +52,6 @@ pub if-same : {a b x y : Bool} → a ≡ b → (b ≡ true → x ≡ y) → (not
 if-same {a} {b} {x} {y} e h = rw e (by-bool b (λ t. rw t (h t)) (λ t. rw t))
 
 -- ---- equations
-pub and-true : (a : Bool) → (a && true) ≡ a
-and-true true = refl
-and-true false = refl
-
-pub and-false : (a : Bool) → (a && false) ≡ false
-and-false true = refl
-and-false false = refl
-
-pub or-true : (a : Bool) → (a || true) ≡ true
-or-true true = refl
-or-true false = refl
-
-pub or-false : (a : Bool) → (a || false) ≡ a
-or-false true = refl
-or-false false = refl
-
 pub and-assoc : (a b c : Bool) → (a && (b && c)) ≡ (a && b && c)
 and-assoc true b c = refl
 and-assoc false b c = refl

@@ -2,15 +2,15 @@
 -- is kept where moves and exits are.
 use mathlib.Core.Path.{_≡_, sym, subst}
 use mathlib.Core.Logic.{_≢_, _⊎_, inl, inr}
-use mathlib.Core.Bool.{Bool, true, false, _&&_, _||_}
+use mathlib.Core.Bool.{Bool, true, false, _&&_}
 use Prim.Native.Nat.{ℕ, zero, suc, _+_, _≤_}
 use native.Mathlib.Nat.{le-suc, le-suc-iff}
 use native.Mathlib.Decide.{ℕ-discrete, decLe}
 use native.Mathlib.Omega.{arith}
 use lib.Dec.{T}
 use Rattle.exact.specs.Chains.{In, GetsOut, stop, go, any, outWithin, WithinDecidesChains}
-use Rattle.exact.specs.Sums.{sum}
-use Rattle.exact.proofs.Sums.{sum-ones, sum-tight}
+use Rattle.exact.specs.Sums.{sum, bit}
+use Rattle.exact.proofs.Sums.{sum-ones, sum-tight, bit≤1}
 use lib.Ieee.Fits.{and-i, and-l, and-r}
 use Rattle.exact.proofs.Bools.{or-l, or-r, or-cases}
 
@@ -45,27 +45,15 @@ any-some p k (suc m) t =
       | inr h ↦ (k + m, omega arith, h)
     ]
 
--- 1 for a stage that is marked.
-mark : Bool → ℕ
-mark true = 1
-mark false = 0
+bit-mono : (a b : Bool) → (T a → T b) → bit a ≤ bit b
+bit-mono true true f = omega arith
+bit-mono true false f = absurd (f tt)
+bit-mono false b f = omega arith
 
-mark-mono : (a b : Bool) → (T a → T b) → mark a ≤ mark b
-unfolding mark
-mark-mono true true f = omega arith
-mark-mono true false f = absurd (f tt)
-mark-mono false b f = omega arith
-
-mark≤1 : (a : Bool) → mark a ≤ 1
-unfolding mark
-mark≤1 true = omega arith
-mark≤1 false = omega arith
-
-mark-back : (a b : Bool) → mark a ≡ mark b → T b → T a
-unfolding mark
-mark-back true b e t = tt
-mark-back false true e t = omega arith
-mark-back false false e t = t
+bit-back : (a b : Bool) → bit a ≡ bit b → T b → T a
+bit-back true b e t = tt
+bit-back false true e t = omega arith
+bit-back false false e t = t
 
 module _ (k m : ℕ) (move : ℕ → ℕ → Bool) (exit : ℕ → Bool) where
   abbrev Out : ℕ → ℕ → Bool
@@ -120,17 +108,18 @@ module _ (k m : ℕ) (move : ℕ → ℕ → Bool) (exit : ℕ → Bool) where
   closed-all q i c l (stop t) = out-by-exit q i t
   closed-all q i c l (go {j = j} s n r) = c i l (one-move q i j s n (closed-all q j c n r))
 
+  -- 1 for a stage that is marked.
   marks : ℕ → ℕ → ℕ
-  marks q i = mark (Out q i)
+  marks q i = bit (Out q i)
 
   marks-grow : (q i : ℕ) → In k m i → marks q i ≤ marks (suc q) i
   unfolding marks
-  marks-grow q i l = mark-mono (Out q i) (Out (suc q) i) (more-moves q i)
+  marks-grow q i l = bit-mono (Out q i) (Out (suc q) i) (more-moves q i)
 
   no-new-mark : (q : ℕ) → sum (marks (suc q)) k m ≤ sum (marks q) k m → Closed q
   unfolding marks Closed
   no-new-mark q s i l =
-      mark-back (Out q i) (Out (suc q) i) (sum-tight (marks q) (marks (suc q)) k m (marks-grow q) s i l)
+      bit-back (Out q i) (Out (suc q) i) (sum-tight (marks q) (marks (suc q)) k m (marks-grow q) s i l)
 
   -- After q passes: some pass marked nothing new, or q stages are marked.
   passes : (q : ℕ) → ((r : ℕ) × (r ≤ q) × Closed r) ⊎ (q ≤ sum (marks q) k m)
@@ -147,10 +136,10 @@ module _ (k m : ℕ) (move : ℕ → ℕ → Bool) (exit : ℕ → Bool) where
 
   -- m marks among m stages: all are marked.
   all-marked : m ≤ sum (marks m) k m → (i : ℕ) → In k m i → T (Out m i)
-  unfolding marks mark
+  unfolding marks
   all-marked h i l =
       let ones = sum-ones k m in
-      mark-back (Out m i) true (sum-tight (marks m) (λ j. 1) k m (λ j n. mark≤1 (Out m j)) (omega arith) i l) tt
+      bit-back (Out m i) true (sum-tight (marks m) (λ j. 1) k m (λ j n. bit≤1 (Out m j)) (omega arith) i l) tt
 
   out-of : (i : ℕ) → In k m i → GetsOut k m move exit i → T (Out m i)
   out-of i l c =

@@ -1,18 +1,17 @@
--- Comparison, and from it uniqueness and the order of solutions.
+-- Comparison, and from it uniqueness and where a solution is largest.
 use mathlib.Core.Path.{_≡_, ap, subst}
 use mathlib.Core.Logic.{_≢_, _⊎_, inl, inr}
-use Prim.Native.Nat.{ℕ, zero, suc, _+_, _*_, _^_, _≤_, _<_}
-use native.Mathlib.Nat.{le-refl, le-antisymm, mul-le-mul-left, mul-le-mul-right, le-of-mul-le-mul-left, eq-of-mul-eq-mul-left}
+use Prim.Native.Nat.{ℕ, zero, suc, _+_, _*_, _≤_, _<_}
+use native.Mathlib.Nat.{le-refl, le-antisymm, mul-le-mul-left, le-of-mul-le-mul-left, eq-of-mul-eq-mul-left}
 use native.Mathlib.Decide.{ℕ-discrete, decLe}
 use native.Mathlib.Omega.{arith}
 use lib.Dec.{ltb→lt}
 use Rattle.exact.specs.Chains.{In, GetsOut, stop, go}
-use Rattle.exact.specs.Near.{base, next}
 use Rattle.exact.specs.Sums.{sum}
-use Rattle.exact.specs.Systems.{Row, System, diag, mix, Solves, SolvesSigned, AllOut, moves, exits, withRight}
-use Rattle.exact.specs.Comparison.{RowBelow, Comparison, Uniqueness, SignedUniqueness, LargerRight, NearRight, LargestAtItsStage}
+use Rattle.exact.specs.Systems.{Row, Equations, diag, mix, Solves, AllOut, moves, exits, withRight}
+use Rattle.exact.specs.Comparison.{RowBelow, Comparison, Uniqueness, LargestAtItsStage}
 use Rattle.exact.proofs.Sums.{first, later, on-range, none-in, sum-mono, sum-tight, sum-add, sum-scale}
-use Rattle.exact.proofs.Systems.{mix-add, mix-scale, mix-const, solves-scale}
+use Rattle.exact.proofs.Systems.{mix-const, solves-scale}
 
 module _ (u v : ℕ → ℕ) where
   -- u − v is largest at l.
@@ -76,7 +75,7 @@ module _ (k m : ℕ) (row : Row) (u v : ℕ → ℕ) (l : ℕ) (big : Largest u 
         let s : sum high-term k m ≤ sum low-term k m = omega (arith, low-sum, high-sum) in
         terms-equal j p (sum-tight low-term high-term k m terms-below s j n)
 
-module _ (k m : ℕ) (A : System) (u v : ℕ → ℕ) (h : (i : ℕ) → In k m i → (u i ≤ v i) ⊎ RowBelow k m A u v i) where
+module _ (k m : ℕ) (A : Equations) (u v : ℕ → ℕ) (h : (i : ℕ) → In k m i → (u i ≤ v i) ⊎ RowBelow k m A u v i) where
   below : (i : ℕ) → In k m i → v i < u i → RowBelow k m A u v i
   below i l d = elim (h i l) [ inl a ↦ absurd (omega arith) | inr b ↦ b ]
 
@@ -104,7 +103,7 @@ comparison k m A u v o h i l =
 
 -- Comparison with stage r set apart.
 pub comparison-but :
-    (k m : ℕ) (A : System) → AllOut k m A → (r : ℕ) (u v : ℕ → ℕ) → u r ≤ v r
+    (k m : ℕ) (A : Equations) → AllOut k m A → (r : ℕ) (u v : ℕ → ℕ) → u r ≤ v r
     → ((i : ℕ) → In k m i → r ≢ i → RowBelow k m A u v i)
     → (i : ℕ) → In k m i → u i ≤ v i
 unfolding Comparison
@@ -115,7 +114,7 @@ comparison-but k m A o r u v h rows = comparison k m A u v o row-or-given
         elim (ℕ-discrete r i) [ yes e ↦ inl (subst (λ x. u x ≤ v x) e h) | no n ↦ inr (rows i l n) ]
 
 -- Solutions for two right sides, each over its denominator and times its factor. The system's own right side plays no part.
-module _ (k m : ℕ) (A : System) (o : AllOut k m A) where
+module _ (k m : ℕ) (A : Equations) (o : AllOut k m A) where
   row-below :
       (b b′ : ℕ → ℕ) (c d : ℕ) (y z : ℕ → ℕ) → Solves k m (withRight A b) c y → Solves k m (withRight A b′) d z
       → (i : ℕ) → In k m i → b i * c ≤ b′ i * d → RowBelow k m A y z i
@@ -144,56 +143,6 @@ uniqueness k m A c d y z o s t i l =
     let b : ℕ → ℕ = λ i. A i .right in
     let up = ordered k m A o b b c d d c y z s t (λ i l. omega arith) i l in
     let down = ordered k m A o b b d c c d z y t s (λ i l. omega arith) i l in
-    le-antisymm up down
-
-pub larger-right : LargerRight
-unfolding LargerRight
-larger-right k m A b b′ d y z o s t h i l =
-    omega (arith, ordered k m A o b b′ d d 1 1 y z s t (λ i l. omega (arith, mul-le-mul-right d (h i l))) i l)
-
-cross : (x y a b c d : ℕ) → x * a ≤ y * b → x * (c * (d * a)) ≤ y * (d * (c * b))
-cross x y a b c d h = omega (arith, mul-le-mul-right (c * d) h)
-
-pub near-right : NearRight
-unfolding NearRight
-near-right k m A b b′ e c d y z o s t h i l =
-    let above = ordered k m A o b b′ c d (d * base ^ e) (c * next ^ e) y z s t up i l in
-    let under = ordered k m A o b′ b d c (c * base ^ e) (d * next ^ e) z y t s down i l in
-    record { upper = omega (arith, above); lower = omega (arith, under) }
-  where
-    up : (i : ℕ) → In k m i → b i * (c * (d * base ^ e)) ≤ b′ i * (d * (c * next ^ e))
-    up i l = cross (b i) (b′ i) (base ^ e) (next ^ e) c d (h i l .upper)
-
-    down : (i : ℕ) → In k m i → b′ i * (d * (c * base ^ e)) ≤ b i * (c * (d * next ^ e))
-    down i l = cross (b′ i) (b i) (base ^ e) (next ^ e) d c (h i l .lower)
-
--- p = q + z, each over its denominator.
-module _ (k m : ℕ) (A : System) (c d : ℕ) (p q z : ℕ → ℕ) (s : SolvesSigned k m A c p q) (t : Solves k m A d z) where
-  plus : ℕ → ℕ
-  plus j = p j * d
-
-  minus : ℕ → ℕ
-  minus j = q j * d + z j * c
-
-  signed-row :
-      (i : ℕ) → In k m i
-      → diag k m (A i) * plus i + mix k m (A i) minus ≡ diag k m (A i) * minus i + mix k m (A i) plus
-  unfolding plus minus
-  signed-row i l =
-      let a = mix-add k m (A i) (λ j. q j * d) (λ j. z j * c) in
-      let pd = mix-scale k m (A i) p d in
-      let qd = mix-scale k m (A i) q d in
-      let zc = mix-scale k m (A i) z c in
-      omega (arith, ap (λ x. x * d) (s .row i l), ap (λ x. x * c) (t .row i l))
-
-pub signed-uniqueness : SignedUniqueness
-unfolding SignedUniqueness Comparison plus minus
-signed-uniqueness k m A c d p q z o s t i l =
-    let u = plus k m A c d p q z s t in
-    let v = minus k m A c d p q z s t in
-    let e = signed-row k m A c d p q z s t in
-    let up = comparison k m A u v o (λ i l. inr (omega (arith, e i l))) i l in
-    let down = comparison k m A v u o (λ i l. inr (omega (arith, e i l))) i l in
     le-antisymm up down
 
 pub largest-at-its-stage : LargestAtItsStage

@@ -8,13 +8,13 @@ use native.Mathlib.Omega.{arith}
 use lib.Dec.{T, ltb→lt, lt→ltb}
 use Rattle.exact.specs.Chains.{In, GetsOut, stop, go}
 use Rattle.exact.specs.Sums.{sum}
-use Rattle.exact.specs.Systems.{System, diag, mix, Holds, Solves, moves, exits}
+use Rattle.exact.specs.Systems.{Equations, diag, mix, RowHolds, Solves, moves, exits}
 use Rattle.exact.specs.Elimination.{pivot, eliminate, Back, Elimination, EliminationGetsOut, Existence}
 use Rattle.exact.proofs.Sums.{first, later, none-in, first-or-later, on-range, sum-combine, sum-cong, term≤sum}
 use Rattle.exact.proofs.Systems.{mix-cong, mix-scale, mix-head, diag-head, solves-at, solves-scale}
 
 -- The rows of the eliminated system.
-module _ (k m : ℕ) (A : System) (i : ℕ) where
+module _ (k m : ℕ) (A : Equations) (i : ℕ) where
   eliminated-diag : diag (suc k) m (eliminate k m A i) ≡ (A i .size k + diag (suc k) m (A i)) * pivot k m A
   unfolding eliminate diag pivot
   eliminated-diag =
@@ -35,17 +35,17 @@ module _ (k m : ℕ) (A : System) (i : ℕ) where
       ∙ sum-combine a b (pivot k m A) (A i .size k) (suc k) m
 
 -- Row i before and after the step, and row k, which is the way between them.
-module _ (k m : ℕ) (A : System) (d : ℕ) (z : ℕ → ℕ) where
-  row-back : Holds k (suc m) (A k) d z k → Back k m A d z
+module _ (k m : ℕ) (A : Equations) (d : ℕ) (z : ℕ → ℕ) where
+  row-back : RowHolds k (suc m) (A k) d z k → Back k m A d z
   unfolding Back pivot
   row-back s = omega (arith, rw (diag-head k m (A k), mix-head k m (A k) z) at s)
 
-  back-row : Back k m A d z → Holds k (suc m) (A k) d z k
+  back-row : Back k m A d z → RowHolds k (suc m) (A k) d z k
   unfolding Back pivot
   back-row b = rw (diag-head k m (A k), mix-head k m (A k) z) (omega arith)
 
   module _ (back : Back k m A d z) (i : ℕ) where
-    eliminated-row : Holds k (suc m) (A i) d z i → Holds (suc k) m (eliminate k m A i) d z i
+    eliminated-row : RowHolds k (suc m) (A i) d z i → RowHolds (suc k) m (eliminate k m A i) d z i
     unfolding Back eliminate
     eliminated-row s =
         let s′ = rw (diag-head k m (A i), mix-head k m (A i) z) at s in
@@ -53,7 +53,7 @@ module _ (k m : ℕ) (A : System) (d : ℕ) (z : ℕ → ℕ) where
         let f = ap (λ y. A i .size k * y) back in
         rw (eliminated-diag k m A i, eliminated-mix k m A i z) (omega arith)
 
-    restored-row : 0 < pivot k m A → Holds (suc k) m (eliminate k m A i) d z i → Holds k (suc m) (A i) d z i
+    restored-row : 0 < pivot k m A → RowHolds (suc k) m (eliminate k m A i) d z i → RowHolds k (suc m) (A i) d z i
     unfolding Back eliminate
     restored-row p s =
         let s′ = rw (eliminated-diag k m A i, eliminated-mix k m A i z) at s in
@@ -70,15 +70,15 @@ module _ (k m : ℕ) (A : System) (d : ℕ) (z : ℕ → ℕ) where
 
   restored : 0 < pivot k m A → Solves (suc k) m (eliminate k m A) d z × Back k m A d z → Solves k (suc m) A d z
   restored p (s, back) =
-      let tail : (i : ℕ) → In (suc k) m i → Holds k (suc m) (A i) d z i = λ i l. restored-row back i p (s .row i l) in
-      record { row = on-range (λ i. Holds k (suc m) (A i) d z i) (back-row back) tail }
+      let tail : (i : ℕ) → In (suc k) m i → RowHolds k (suc m) (A i) d z i = λ i l. restored-row back i p (s .row i l) in
+      record { row = on-range (λ i. RowHolds k (suc m) (A i) d z i) (back-row back) tail }
 
 pub elimination : Elimination
 unfolding Elimination
 elimination k m A d z p = (reduced k m A d z, restored k m A d z p)
 
 -- Whichever way a chain leaves k, something of the pivot is not zero.
-pivot-pos : (k m : ℕ) (A : System) {i : ℕ} → GetsOut k (suc m) (moves A) (exits A) i → k ≡ i → 0 < pivot k m A
+pivot-pos : (k m : ℕ) (A : Equations) {i : ℕ} → GetsOut k (suc m) (moves A) (exits A) i → k ≡ i → 0 < pivot k m A
 unfolding pivot diag
 pivot-pos k m A (stop {i = i} t) e =
     let p : 0 < A k .exit = subst (λ x. 0 < A x .exit) (sym e) (ltb→lt zero (A i .exit) t) in
@@ -92,7 +92,7 @@ pivot-pos k m A (go {i = i} {j = j} t n c) e =
     ]
 
 -- A move or an exit stays, and so does one by way of k.
-module _ (k m : ℕ) (A : System) (p : 0 < pivot k m A) (i : ℕ) where
+module _ (k m : ℕ) (A : Equations) (p : 0 < pivot k m A) (i : ℕ) where
   move-stays : (j : ℕ) → 0 < A i .size j → T (moves (eliminate k m A) i j)
   unfolding eliminate
   move-stays j a = lt→ltb zero (A i .size j * pivot k m A + A i .size k * A k .size j) (omega (arith, mul-pos a p))
@@ -110,7 +110,7 @@ module _ (k m : ℕ) (A : System) (p : 0 < pivot k m A) (i : ℕ) where
   exit-by-way a b = lt→ltb zero (A i .exit * pivot k m A + A i .size k * A k .exit) (omega (arith, mul-pos a b))
 
 -- From a stage after k there is a chain around k; from k there is one for every stage that moves to k.
-module _ (k m : ℕ) (A : System) (p : 0 < pivot k m A) where
+module _ (k m : ℕ) (A : Equations) (p : 0 < pivot k m A) where
   abbrev Out : ℕ → Type 0
   Out i = GetsOut (suc k) m (moves (eliminate k m A)) (exits (eliminate k m A)) i
 
@@ -140,7 +140,7 @@ elimination-gets-out k m A o =
     (p, record { out = λ i l. around k m A p (o .out i (later l)) .0 l })
 
 -- The solution of the eliminated system over d, with z_k before it, over d times the pivot.
-module _ (k m : ℕ) (A : System) (d : ℕ) (z : ℕ → ℕ) where
+module _ (k m : ℕ) (A : Equations) (d : ℕ) (z : ℕ → ℕ) where
   entry : (i : ℕ) → Dec (k ≡ i) → ℕ
   entry i (yes e) = A k .right * d + mix (suc k) m (A k) z
   entry i (no n) = z i * pivot k m A

@@ -9,4 +9,4 @@ pub mod Elimination
 pub mod Perturbation
 pub mod Run
 pub mod Weights
-pub mod Fractions
+pub mod CommonDenominator

@@ -1,5 +1,5 @@
 -- Laws of Near. Only the order of the two bases is used, never their size.
-use mathlib.Core.Path.{_≡_, refl, ap, subst, subst₂}
+use mathlib.Core.Path.{_≡_, refl, ap, subst}
 use Prim.Native.Nat.{ℕ, zero, suc, _+_, _*_, _^_, _≤_, _<_}
 use native.Mathlib.Nat.{add-zero, add-mul, mul-comm, mul-right-comm, le-dest, mul-le-mul, mul-le-mul-left, mul-le-mul-right, mul-pos, one-le-pow, pow-le-pow-left, le-of-mul-le-mul-right}
 use native.Mathlib.Omega.{arith}
@@ -14,7 +14,7 @@ pub base≤next : (e : ℕ) → base ^ e ≤ next ^ e
 unfolding next
 base≤next e = pow-le-pow-left (omega arith) e
 
-base-pos : (e : ℕ) → 0 < base ^ e
+pub base-pos : (e : ℕ) → 0 < base ^ e
 unfolding base
 base-pos e = one-le-pow e (2 ^ 53) (lit< tt)
 
@@ -110,19 +110,8 @@ pub near-zero : {e x y : ℕ} → Near e x y → y ≡ 0 → x ≡ 0
 near-zero {x = zero} h p = refl
 near-zero {x = suc x} {y} h p = let q : 0 < y = near-pos h (omega arith) in omega arith
 
--- A sum made term by term, each addition within one rounding, is within as many roundings as it has terms: acc j is what
--- stands before term j (going up), or after it (going down).
-pub near-sum-up :
-    (acc f : ℕ → ℕ) (k m : ℕ) → ((j : ℕ) → In k m j → Near 1 (acc (suc j)) (acc j + f j))
-    → Near m (acc (k + m)) (acc k + sum f k m)
-unfolding sum
-near-sum-up acc f k zero h = rw (add-zero k) (near-eq (omega arith))
-near-sum-up acc f k (suc m) h =
-    let rest = near-sum-up acc f (suc k) m (λ j l. h j (later l)) in
-    let one = near-add (h k first) (near-refl {x = sum f (suc k) m}) in
-    let e : acc (suc k + m) ≡ acc (k + suc m) = ap acc (omega arith) in
-    subst₂ (Near (suc m)) e (omega arith) (near-grow {e = m + 1} (omega arith) (near-trans rest one))
-
+-- A sum made term by term from the last on, each addition within one rounding, is within as many roundings as it has terms:
+-- acc j is what stands once the terms from j on are added.
 pub near-sum-down :
     (acc f : ℕ → ℕ) (k m : ℕ) → ((j : ℕ) → In k m j → Near 1 (acc j) (acc (suc j) + f j))
     → Near m (acc k) (acc (k + m) + sum f k m)

@@ -7,7 +7,7 @@ use native.Mathlib.Decide.{ℕ-discrete, decLe, decLt}
 use native.Mathlib.Omega.{arith}
 use Rattle.exact.specs.Chains.{In}
 use Rattle.exact.specs.Near.{Near, base, next}
-use Rattle.exact.specs.Systems.{Row, System, diag, mix, Holds, Solves, AllOut}
+use Rattle.exact.specs.Systems.{Row, Equations, diag, mix, RowHolds, Solves, AllOut}
 use Rattle.exact.specs.Comparison.{RowBelow, Comparison, Uniqueness}
 use Rattle.exact.specs.Elimination.{Existence}
 use Rattle.exact.specs.Perturbation.{NearMoves, NearRow, OneRow, AllRows}
@@ -28,7 +28,7 @@ near-row-sym h =
 
 -- Rows that are near have the same zeros.
 pub near-out :
-    {e k m : ℕ} {A B : System} → AllOut k m A → ((i : ℕ) → In k m i → NearMoves e k m i (A i) (B i)) → AllOut k m B
+    {e k m : ℕ} {A B : Equations} → AllOut k m A → ((i : ℕ) → In k m i → NearMoves e k m i (A i) (B i)) → AllOut k m B
 near-out o h = all-out-mono o (λ i j li lj n p. near-pos (h i li .size j lj n) p) (λ i li p. near-pos (h i li .exit) p)
 
 -- Σ T_j v_j of two near rows, at a vector that is zero at their own stage: the diagonal plays no part.
@@ -53,9 +53,9 @@ mix-sub k m row y z h =
 
 -- Two vectors that satisfy every row but row r are in the order that they have at r.
 spread :
-    (k m : ℕ) (A : System) → AllOut k m A → (r d : ℕ) (y z : ℕ → ℕ)
-    → ((i : ℕ) → In k m i → r ≢ i → Holds k m (A i) d y i)
-    → ((i : ℕ) → In k m i → r ≢ i → Holds k m (A i) d z i)
+    (k m : ℕ) (A : Equations) → AllOut k m A → (r d : ℕ) (y z : ℕ → ℕ)
+    → ((i : ℕ) → In k m i → r ≢ i → RowHolds k m (A i) d y i)
+    → ((i : ℕ) → In k m i → r ≢ i → RowHolds k m (A i) d z i)
     → (a b : ℕ) → a ≤ b → y r * a ≤ z r * b
     → (i : ℕ) → In k m i → y i * a ≤ z i * b
 spread k m A o r d y z s t a b l h = comparison-but k m A o r (λ i. y i * a) (λ i. z i * b) h row
@@ -70,12 +70,12 @@ spread k m A o r d y z s t a b l h = comparison-but k m A o r (λ i. y i * a) (�
 
 -- The solution z of A, and z + w of B, which differs in row r.
 module _
-    (k m : ℕ) (A B : System) (o : AllOut k m A) (o′ : AllOut k m B) (r d : ℕ) (lr : In k m r) (z w : ℕ → ℕ)
+    (k m : ℕ) (A B : Equations) (o : AllOut k m A) (o′ : AllOut k m B) (r d : ℕ) (lr : In k m r) (z w : ℕ → ℕ)
     (same : (i : ℕ) → In k m i → r ≢ i → A i ≡ B i) (s : Solves k m A d z) (t : Solves k m B d (λ i. z i + w i)) where
   -- Off r the growth w has no right side.
   growth-row : (i : ℕ) → In k m i → r ≢ i → diag k m (A i) * w i ≡ mix k m (A i) w
   growth-row i l n =
-      let h = subst (λ row. Holds k m row d (λ j. z j + w j) i) (sym (same i l n)) (t .row i l) in
+      let h = subst (λ row. RowHolds k m row d (λ j. z j + w j) i) (sym (same i l n)) (t .row i l) in
       omega (arith, h, s .row i l, mix-add k m (A i) z w)
 
   -- It is largest at r,
@@ -156,7 +156,7 @@ module _
 
 -- Solutions y of A and z of B, which differs in row r, over one denominator.
 module _
-    (k m : ℕ) (A B : System) (o : AllOut k m A) (e r d : ℕ) (lr : In k m r) (y z : ℕ → ℕ)
+    (k m : ℕ) (A B : Equations) (o : AllOut k m A) (e r d : ℕ) (lr : In k m r) (y z : ℕ → ℕ)
     (same : (i : ℕ) → In k m i → r ≢ i → A i ≡ B i) (near : NearRow e k m r (A r) (B r))
     (s : Solves k m A d y) (t : Solves k m B d z) where
   new-out : AllOut k m B
@@ -170,11 +170,11 @@ module _
           ]
 
   -- Both satisfy A's rows off r.
-  old-rows : (i : ℕ) → In k m i → r ≢ i → Holds k m (A i) d y i
+  old-rows : (i : ℕ) → In k m i → r ≢ i → RowHolds k m (A i) d y i
   old-rows i l n = s .row i l
 
-  new-rows : (i : ℕ) → In k m i → r ≢ i → Holds k m (A i) d z i
-  new-rows i l n = subst (λ row. Holds k m row d z i) (sym (same i l n)) (t .row i l)
+  new-rows : (i : ℕ) → In k m i → r ≢ i → RowHolds k m (A i) d z i
+  new-rows i l n = subst (λ row. RowHolds k m row d z i) (sym (same i l n)) (t .row i l)
 
   -- If the new entry at r is the larger one, all are, and the growth is z − y.
   all-larger : y r ≤ z r → (i : ℕ) → In k m i → z i ≡ y i + (z i - y i)
@@ -194,7 +194,7 @@ module _
       record { upper = up; lower = down }
 
 one-row-over :
-    (k m : ℕ) (A B : System) (e r d : ℕ) (y z : ℕ → ℕ) → AllOut k m A → In k m r
+    (k m : ℕ) (A B : Equations) (e r d : ℕ) (y z : ℕ → ℕ) → AllOut k m A → In k m r
     → ((i : ℕ) → In k m i → r ≢ i → A i ≡ B i)
     → NearRow e k m r (A r) (B r)
     → Solves k m A d y → Solves k m B d z
@@ -223,12 +223,12 @@ one-row k m A B e r c d y z o lr same near s t i l =
     near-grow {e = e + e} (omega arith) h
 
 -- B's rows before stage q, A's from there on.
-module _ (A B : System) where
+module _ (A B : Equations) where
   pick : (i q : ℕ) → Dec (i < q) → Row
   pick i q (yes h) = B i
   pick i q (no n) = A i
 
-  hybrid : ℕ → System
+  hybrid : ℕ → Equations
   hybrid q i = pick i q (decLt i q)
 
   hybrid-before : (q i : ℕ) → i < q → hybrid q i ≡ B i

@@ -1,46 +1,23 @@
 -- The accuracy of a run: each level by perturbation, each row by its own law.
-use mathlib.Core.Path.{_≡_, _∙_, ap, subst, subst₂}
+use mathlib.Core.Path.{_≡_, ap, subst, subst₂}
 use mathlib.Core.Logic.{_≢_}
-use Prim.Native.Nat.{ℕ, zero, suc, _+_, _*_, _≤_, _<_}
-use native.Mathlib.Nat.{mul-pos, zero-add}
-use native.Mathlib.Decide.{ℕ-discrete}
+use Prim.Native.Nat.{ℕ, zero, suc, _+_, _*_, _^_, _≤_, _<_}
+use native.Mathlib.Nat.{mul-pos, zero-add, one-mul, pow-suc, pow-zero}
 use native.Mathlib.Omega.{arith}
 use Rattle.exact.specs.Chains.{In}
 use Rattle.exact.specs.Near.{Near}
-use Rattle.exact.specs.Systems.{Row, System, diag, mix, Holds, Solves, AllOut}
+use Rattle.exact.specs.Systems.{Equations, mix, Solves, AllOut}
 use Rattle.exact.specs.Elimination.{pivot, eliminate, Back, Elimination, EliminationGetsOut, Existence}
 use Rattle.exact.specs.Perturbation.{NearRow, AllRows}
-use Rattle.exact.specs.Run.{Step, RightStep, SharedSteps, ColumnSteps, total, PivotsNotZero, RunAccuracy, levelCount, rowCount, RunBound, WeightedRunBound}
-use Rattle.exact.proofs.Sums.{none-in, on-range, sum-scale, sum-cong}
+use Rattle.exact.specs.Run.{Step, RightStep, SharedSteps, ColumnSteps, total, RunAccuracy, levelCount, rowCount, RunBound, WeightedRunBound}
+use Rattle.exact.proofs.Sums.{none-in, on-range}
 use Rattle.exact.proofs.Near.{near-refl, near-sym, near-trans, near-grow, near-scale, near-scale-left, near-cancel, near-through, near-add, near-sum, near-pos, pos-left}
-use Rattle.exact.proofs.Systems.{mix-scale, all-out-mono}
+use Rattle.exact.proofs.Systems.{mix-scale, multiplied, solves-multiplied, all-out-mono}
 use Rattle.exact.proofs.Elimination.{elimination, elimination-gets-out, existence}
 use Rattle.exact.proofs.Perturbation.{all-rows}
 
--- A row multiplied by c has the same solutions.
-times : ℕ → Row → Row
-times c x = record { size = λ j. x .size j * c; exit = x .exit * c; right = x .right * c }
-
-times-diag : (k m c : ℕ) (x : Row) → diag k m (times c x) ≡ diag k m x * c
-unfolding times diag
-times-diag k m c x = let s = sum-scale (x .size) c k m in omega arith
-
-times-mix : (k m c : ℕ) (x : Row) (z : ℕ → ℕ) → mix k m (times c x) z ≡ mix k m x z * c
-unfolding times mix
-times-mix k m c x z =
-    sum-cong (λ j. x .size j * c * z j) (λ j. x .size j * z j * c) k m (λ j l. omega arith)
-    ∙ sum-scale (λ j. x .size j * z j) c k m
-
-times-solves :
-    {k m : ℕ} {A : System} {d : ℕ} {z : ℕ → ℕ} (c : ℕ) → Solves k m A d z → Solves k m (λ i. times c (A i)) d z
-unfolding times
-times-solves {k} {m} {A} {d} {z} c s = record { row = row }
-  where
-    row : (i : ℕ) → In k m i → Holds k m (times c (A i)) d z i
-    row i l = rw (times-diag k m c (A i), times-mix k m c (A i) z) (omega (arith, ap (λ x. x * c) (s .row i l)))
-
 -- One level's step: the next system gets out, and multiplied by the pivot it is near the exact elimination.
-module _ (e k m : ℕ) (A B : System) (o : AllOut k (suc m) A) (s : Step e k m A B) where
+module _ (e k m : ℕ) (A B : Equations) (o : AllOut k (suc m) A) (s : Step e k m A B) where
   step-out : AllOut (suc k) m B
   unfolding EliminationGetsOut eliminate
   step-out = all-out-mono (elimination-gets-out k m A o .1) move-kept exit-kept
@@ -52,9 +29,9 @@ module _ (e k m : ℕ) (A B : System) (o : AllOut k (suc m) A) (s : Step e k m A
       exit-kept : (i : ℕ) → In (suc k) m i → 0 < eliminate k m A i .exit → 0 < B i .exit
       exit-kept i li p = pos-left (B i .exit) (pivot k m A) (near-pos (near-sym (s .exit i li)) p)
 
-  times-out : AllOut (suc k) m (λ i. times (pivot k m A) (B i))
-  unfolding times EliminationGetsOut
-  times-out =
+  multiplied-out : AllOut (suc k) m (λ i. multiplied (pivot k m A) (B i))
+  unfolding EliminationGetsOut
+  multiplied-out =
       let p = elimination-gets-out k m A o .0 in
       all-out-mono step-out (λ i j li lj n h. mul-pos h p) (λ i li h. mul-pos h p)
 
@@ -62,12 +39,12 @@ module _ (e k m : ℕ) (A B : System) (o : AllOut k (suc m) A) (s : Step e k m A
   next-near :
       RightStep e k m A B → (b c : ℕ) (v z : ℕ → ℕ) → Solves (suc k) m B b v → Solves (suc k) m (eliminate k m A) c z
       → (i : ℕ) → In (suc k) m i → Near (2 * m * e) (v i * c) (z i * b)
-  unfolding times eliminate AllRows
+  unfolding eliminate AllRows
   next-near right b c v z hv hz =
-      all-rows (suc k) m scaled (eliminate k m A) e b c v z times-out rows (times-solves (pivot k m A) hv) hz
+      all-rows (suc k) m scaled (eliminate k m A) e b c v z multiplied-out rows (solves-multiplied (pivot k m A) hv) hz
     where
-      scaled : System
-      scaled i = times (pivot k m A) (B i)
+      scaled : Equations
+      scaled i = multiplied (pivot k m A) (B i)
 
       rows : (i : ℕ) → In (suc k) m i → NearRow e (suc k) m i (scaled i) (eliminate k m A i)
       rows i l = record { moves = record { size = λ j lj n. s .size i j l lj n; exit = s .exit i l }; right = right i l }
@@ -82,39 +59,18 @@ module _ (e k m : ℕ) (A B : System) (o : AllOut k (suc m) A) (s : Step e k m A
       let (b, v, q, hv) = existence (suc k) m B step-out in
       near-through d c (w i) (v i) (z i) q (far b v hv i l) (next-near right b c v z hv hz i l)
 
--- The shared steps, level by level: a caller who proves each step from the pivot before it builds them up so.
-pub no-steps : {level : ℕ → ℕ} {n : ℕ} {A : ℕ → System} → SharedSteps level n A zero
-no-steps = record { step = λ k m e l. absurd (omega arith) }
-
-pub one-more-step :
-    {level : ℕ → ℕ} {n : ℕ} {A : ℕ → System} {q : ℕ} → SharedSteps level n A q
-    → ((m : ℕ) → suc (q + m) ≡ n → Step (level (suc m)) q m (A q) (A (suc q)))
-    → SharedSteps level n A (suc q)
-one-more-step {level} {n} {A} {q} s t = record { step = step }
-  where
-    step : (k m : ℕ) → suc (k + m) ≡ n → k < suc q → Step (level (suc m)) k m (A k) (A (suc k))
-    step k m e l =
-        elim (ℕ-discrete q k) [
-          | yes f ↦ subst (λ x. Step (level (suc m)) x m (A x) (A (suc x))) f (t m (omega arith))
-          | no d ↦ s .step k m e (omega arith)
-        ]
-
 -- Every level's system gets out.
 pub level-out :
-    {level : ℕ → ℕ} {n : ℕ} {A : ℕ → System} {q : ℕ} → AllOut zero n (A zero) → SharedSteps level n A q
+    {level : ℕ → ℕ} {n : ℕ} {A : ℕ → Equations} {q : ℕ} → AllOut zero n (A zero) → SharedSteps level n A q
     → (k m : ℕ) → k + m ≡ n → k ≤ q → AllOut k m (A k)
 level-out {A = A} o s zero m e l = subst (λ x. AllOut zero x (A zero)) (omega arith) o
 level-out {level} {n} {A} o s (suc k) m e l =
     let o′ = level-out o s k (suc m) (omega arith) (omega arith) in
     step-out (level (suc m)) k m (A k) (A (suc k)) o′ (s .step k m (omega arith) l)
 
-pub pivots-not-zero : PivotsNotZero
-unfolding PivotsNotZero EliminationGetsOut
-pivots-not-zero level n A q o s k m e l = elimination-gets-out k m (A k) (level-out o s k (suc m) (omega arith) l) .0
-
 -- Row k: its answer is near, where the answers after it are.
 module _
-    (e f k m : ℕ) (A : System) (c d : ℕ) (w z : ℕ → ℕ) (p : 0 < pivot k m A) (back : Back k m A c z)
+    (e f k m : ℕ) (A : Equations) (c d : ℕ) (w z : ℕ → ℕ) (p : 0 < pivot k m A) (back : Back k m A c z)
     (up : Near f (pivot k m A * w k) (A k .right * d + mix (suc k) m (A k) w))
     (rest : (i : ℕ) → In (suc k) m i → Near e (w i * c) (z i * d)) where
   mix-near : Near e (mix (suc k) m (A k) w * c) (mix (suc k) m (A k) z * d)
@@ -138,7 +94,7 @@ module _
 
 -- The levels from k on.
 module _
-    (level row : ℕ → ℕ) (n : ℕ) (A : ℕ → System) (d : ℕ) (w : ℕ → ℕ)
+    (level row : ℕ → ℕ) (n : ℕ) (A : ℕ → Equations) (d : ℕ) (w : ℕ → ℕ)
     (s : SharedSteps level n A n) (u : ColumnSteps level row n A d w) where
   from-level :
       (m k : ℕ) → k + m ≡ n → AllOut k m (A k) → (c : ℕ) (z : ℕ → ℕ) → Solves k m (A k) c z
@@ -175,6 +131,9 @@ total-sum r a b (suc q) = let h = total-sum r a b q in omega arith
 square : (q : ℕ) → q ≤ q * q
 square zero = omega arith
 square (suc q) = omega arith
+
+pub cube : (n : ℕ) → n ^ 3 ≡ n * n * n
+cube n = rw (pow-suc, pow-suc, pow-suc, pow-zero, one-mul)
 
 pub run-bound : RunBound
 unfolding RunBound

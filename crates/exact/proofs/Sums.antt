@@ -1,11 +1,12 @@
 -- Laws of ranges and of sums over a range.
-use mathlib.Core.Path.{_≡_, refl, sym, ap, subst}
+use mathlib.Core.Bool.{Bool, true, false}
+use mathlib.Core.Path.{_≡_, refl, sym, ap, subst, _∙_}
 use mathlib.Core.Logic.{_≢_, _⊎_, inl, inr}
 use Prim.Native.Nat.{ℕ, zero, suc, _+_, _*_, _≤_}
 use native.Mathlib.Nat.{add-zero, zero-add, suc-add, eq-or-lt-of-le}
 use native.Mathlib.Omega.{arith}
 use Rattle.exact.specs.Chains.{In}
-use Rattle.exact.specs.Sums.{sum}
+use Rattle.exact.specs.Sums.{sum, bit}
 
 -- A range has its first number and the rest.
 pub first : {k m : ℕ} → In k (suc m) k
@@ -69,11 +70,15 @@ zero-sum f k (suc m) h =
     let b = zero-sum f (suc k) m (λ i l. h i (later l)) in
     omega arith
 
--- A common factor.
+-- A common factor, of each term and of one of its factors.
 pub sum-scale : (f : ℕ → ℕ) (c k m : ℕ) → sum (λ i. f i * c) k m ≡ sum f k m * c
 unfolding sum
 sum-scale f c k zero = omega arith
 sum-scale f c k (suc m) = let b = sum-scale f c (suc k) m in omega arith
+
+pub sum-factor : (t f : ℕ → ℕ) (c k m : ℕ) → sum (λ j. t j * (f j * c)) k m ≡ sum (λ j. t j * f j) k m * c
+sum-factor t f c k m =
+    sum-cong (λ j. t j * (f j * c)) (λ j. t j * f j * c) k m (λ j l. omega arith) ∙ sum-scale (λ j. t j * f j) c k m
 
 pub sum-ones : (k m : ℕ) → sum (λ i. 1) k m ≡ m
 unfolding sum
@@ -99,6 +104,9 @@ sum-last f k (suc m) =
     let e : f (suc k + m) ≡ f (k + suc m) = ap f (omega arith) in
     omega arith
 
+pub sum-end : (f : ℕ → ℕ) (m : ℕ) → sum f 0 (suc m) ≡ sum f 0 m + f m
+sum-end f m = rw (zero-add m) at (sum-last f 0 m)
+
 pub sum-split : (f : ℕ → ℕ) (k m q : ℕ) → sum f k (m + q) ≡ sum f k m + sum f (k + m) q
 unfolding sum
 sum-split f k zero q = rw (zero-add q, add-zero k) (omega arith)
@@ -106,11 +114,6 @@ sum-split f k (suc m) q =
     let h = sum-split f (suc k) m q in
     let e : sum f (suc k + m) q ≡ sum f (k + suc m) q = ap (λ x. sum f x q) (omega arith) in
     rw (suc-add m q) (omega arith)
-
-pub sum-shift : (f : ℕ → ℕ) (k m : ℕ) → sum (λ i. f (suc i)) k m ≡ sum f (suc k) m
-unfolding sum
-sum-shift f k zero = refl
-sum-shift f k (suc m) = let h = sum-shift f (suc k) m in omega arith
 
 -- A term is within its sum, and is the sum where every other term is zero.
 pub term≤sum : (f : ℕ → ℕ) (k m i : ℕ) → In k m i → f i ≤ sum f k m
@@ -140,3 +143,7 @@ sum-single f k (suc m) j h o =
           let b = sum-single f (suc k) m j n (λ i l. o i (later l)) in
           omega arith
     ]
+
+pub bit≤1 : (a : Bool) → bit a ≤ 1
+bit≤1 true = omega arith
+bit≤1 false = omega arith

@@ -1,13 +1,13 @@
 -- Laws of a row (Σ T_j z_j is linear in z) and of what a solution and a chain depend on.
-use mathlib.Core.Path.{_≡_, refl, ap, subst}
+use mathlib.Core.Path.{_≡_, refl, ap, subst, _∙_}
 use mathlib.Core.Logic.{_≢_}
 use Prim.Native.Nat.{ℕ, zero, suc, _+_, _*_, _<_}
 use native.Mathlib.Omega.{arith}
 use lib.Dec.{T, ltb→lt, lt→ltb}
 use Rattle.exact.specs.Chains.{In}
 use Rattle.exact.specs.Sums.{sum}
-use Rattle.exact.specs.Systems.{Row, System, diag, mix, Holds, Solves, AllOut, moves, exits}
-use Rattle.exact.proofs.Sums.{sum-cong, sum-scale}
+use Rattle.exact.specs.Systems.{Row, Equations, diag, mix, RowHolds, Solves, AllOut, moves, exits}
+use Rattle.exact.proofs.Sums.{sum-cong, sum-scale, sum-factor}
 use Rattle.exact.proofs.Chains.{gets-out-mono}
 
 pub mix-cong :
@@ -22,9 +22,8 @@ mix-add k zero row y z = refl
 mix-add k (suc m) row y z = let h = mix-add (suc k) m row y z in omega arith
 
 pub mix-scale : (k m : ℕ) (row : Row) (z : ℕ → ℕ) (c : ℕ) → mix k m row (λ i. z i * c) ≡ mix k m row z * c
-unfolding mix sum
-mix-scale k zero row z c = omega arith
-mix-scale k (suc m) row z c = let h = mix-scale (suc k) m row z c in omega arith
+unfolding mix
+mix-scale k m row z c = sum-factor (row .size) z c k m
 
 -- At a constant vector: the diagonal without the exit.
 pub mix-const : (k m : ℕ) (row : Row) (c : ℕ) → row .exit * c + mix k m row (λ i. c) ≡ diag k m row * c
@@ -42,25 +41,46 @@ mix-head k m row z = refl
 
 -- Solutions depend on the rows and the entries in the range alone, and numerators scale with their denominator.
 pub solves-cong :
-    {k m : ℕ} {A B : System} {d : ℕ} {z : ℕ → ℕ}
+    {k m : ℕ} {A B : Equations} {d : ℕ} {z : ℕ → ℕ}
     → ((i : ℕ) → In k m i → A i ≡ B i) → Solves k m A d z → Solves k m B d z
 solves-cong {k} {m} {d = d} {z = z} h s =
-    record { row = λ i l. subst (λ row. Holds k m row d z i) (h i l) (s .row i l) }
+    record { row = λ i l. subst (λ row. RowHolds k m row d z i) (h i l) (s .row i l) }
 
 pub solves-at :
-    {k m : ℕ} {A : System} {d : ℕ} (y z : ℕ → ℕ)
+    {k m : ℕ} {A : Equations} {d : ℕ} (y z : ℕ → ℕ)
     → ((i : ℕ) → In k m i → y i ≡ z i) → Solves k m A d y → Solves k m A d z
 solves-at {k} {m} {A} y z h s =
     record { row = λ i l. rw (← (h i l), ← (mix-cong k m (A i) y z h)) (s .row i l) }
 
 pub solves-scale :
-    {k m : ℕ} {A : System} {d : ℕ} {z : ℕ → ℕ} (c : ℕ) → Solves k m A d z → Solves k m A (d * c) (λ i. z i * c)
+    {k m : ℕ} {A : Equations} {d : ℕ} {z : ℕ → ℕ} (c : ℕ) → Solves k m A d z → Solves k m A (d * c) (λ i. z i * c)
 solves-scale {k} {m} {A} {z = z} c s =
     record { row = λ i l. rw (mix-scale k m (A i) z c) (omega (arith, ap (λ t. t * c) (s .row i l))) }
 
+-- A row multiplied by c has the same solutions.
+abbrev pub multiplied : ℕ → Row → Row
+multiplied c row = record { size = λ j. row .size j * c; exit = row .exit * c; right = row .right * c }
+
+multiplied-diag : (k m c : ℕ) (row : Row) → diag k m (multiplied c row) ≡ diag k m row * c
+unfolding diag
+multiplied-diag k m c row = let s = sum-scale (row .size) c k m in omega arith
+
+multiplied-mix : (k m c : ℕ) (row : Row) (z : ℕ → ℕ) → mix k m (multiplied c row) z ≡ mix k m row z * c
+unfolding mix
+multiplied-mix k m c row z =
+    sum-cong (λ j. row .size j * c * z j) (λ j. row .size j * z j * c) k m (λ j l. omega arith)
+    ∙ sum-scale (λ j. row .size j * z j) c k m
+
+pub solves-multiplied :
+    {k m : ℕ} {A : Equations} {d : ℕ} {z : ℕ → ℕ} (c : ℕ) → Solves k m A d z → Solves k m (λ i. multiplied c (A i)) d z
+solves-multiplied {k} {m} {A} {d} {z} c s = record { row = row }
+  where
+    row : (i : ℕ) → In k m i → RowHolds k m (multiplied c (A i)) d z i
+    row i l = rw (multiplied-diag k m c (A i), multiplied-mix k m c (A i) z) (omega (arith, ap (λ x. x * c) (s .row i l)))
+
 -- Getting out depends on which numbers are zero, and not on the diagonal.
 pub all-out-mono :
-    {k m : ℕ} {A B : System} → AllOut k m A
+    {k m : ℕ} {A B : Equations} → AllOut k m A
     → ((i j : ℕ) → In k m i → In k m j → i ≢ j → 0 < A i .size j → 0 < B i .size j)
     → ((i : ℕ) → In k m i → 0 < A i .exit → 0 < B i .exit)
     → AllOut k m B

@@ -5,7 +5,7 @@ use native.Mathlib.Nat.{mul-pos}
 use native.Mathlib.Omega.{arith}
 use Rattle.exact.specs.Chains.{In}
 use Rattle.exact.specs.Near.{Near}
-use Rattle.exact.specs.Systems.{System, AllOut}
+use Rattle.exact.specs.Systems.{Equations, AllOut}
 use Rattle.exact.specs.Run.{Step, SharedSteps, total, RunAccuracy}
 use Rattle.exact.specs.Weights.{weighted, WeightedStep, WeightedSteps, WeightedRunAccuracy}
 use Rattle.exact.proofs.Near.{near-scale}
@@ -13,12 +13,12 @@ use Rattle.exact.proofs.Systems.{all-out-mono}
 use Rattle.exact.proofs.Run.{run-accuracy}
 
 pub weighted-out :
-    {k m : ℕ} {A : System} (x : ℕ → ℕ) → ((i : ℕ) → In k m i → 0 < x i) → AllOut k m A → AllOut k m (weighted x A)
+    {k m : ℕ} {A : Equations} (x : ℕ → ℕ) → ((i : ℕ) → In k m i → 0 < x i) → AllOut k m A → AllOut k m (weighted x A)
 weighted-out x pos o = all-out-mono o (λ i j li lj n h. mul-pos h (pos j lj)) (λ i li h. h)
 
 -- Only the sizes change: their law times x_j.
 pub weighted-step :
-    {e k m : ℕ} (x : ℕ → ℕ) {A B : System} → WeightedStep e k m x A B → Step e k m (weighted x A) (weighted x B)
+    {e k m : ℕ} (x : ℕ → ℕ) {A B : Equations} → WeightedStep e k m x A B → Step e k m (weighted x A) (weighted x B)
 weighted-step {e} x s =
     record {
       size = λ i j li lj n. subst₂ (Near e) (omega arith) (omega arith) (near-scale (x j) (s .size i j li lj n));
@@ -26,7 +26,7 @@ weighted-step {e} x s =
     }
 
 pub weighted-steps :
-    {level : ℕ → ℕ} {n : ℕ} {x : ℕ → ℕ} {A : ℕ → System} {q : ℕ}
+    {level : ℕ → ℕ} {n : ℕ} {x : ℕ → ℕ} {A : ℕ → Equations} {q : ℕ}
     → WeightedSteps level n x A q → SharedSteps level n (λ k. weighted x (A k)) q
 weighted-steps {x = x} s = record { step = λ k m e l. weighted-step x (s .step k m e l) }
 

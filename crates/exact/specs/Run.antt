@@ -5,11 +5,11 @@ use mathlib.Core.Logic.{_≢_}
 use Prim.Native.Nat.{ℕ, zero, suc, _+_, _*_, _≤_, _<_}
 use Rattle.exact.specs.Chains.{In}
 use Rattle.exact.specs.Near.{Near}
-use Rattle.exact.specs.Systems.{System, mix, Solves, AllOut}
+use Rattle.exact.specs.Systems.{Equations, mix, Solves, AllOut}
 use Rattle.exact.specs.Elimination.{pivot}
 
 -- One step of the numbers that every column shares: T′_ij p is near T_ij p + T_ik T_kj, off the diagonal, and s likewise.
-pub record Step (e k m : ℕ) (A B : System) : Type 0 where
+pub record Step (e k m : ℕ) (A B : Equations) : Type 0 where
   pub size :
       (i j : ℕ) → In (suc k) m i → In (suc k) m j → i ≢ j
       → Near e (B i .size j * pivot k m A) (A i .size j * pivot k m A + A i .size k * A k .size j)
@@ -18,17 +18,17 @@ pub record Step (e k m : ℕ) (A B : System) : Type 0 where
       → Near e (B i .exit * pivot k m A) (A i .exit * pivot k m A + A i .size k * A k .exit)
 
 -- The same step of one column's right sides.
-abbrev pub RightStep : ℕ → ℕ → ℕ → System → System → Type 0
+abbrev pub RightStep : ℕ → ℕ → ℕ → Equations → Equations → Type 0
 RightStep e k m A B =
     (i : ℕ) → In (suc k) m i
     → Near e (B i .right * pivot k m A) (A i .right * pivot k m A + A i .size k * A k .right)
 
 -- The shared steps of the levels before q; level m is the count of roundings of a level with m stages.
-pub record SharedSteps (level : ℕ → ℕ) (n : ℕ) (A : ℕ → System) (q : ℕ) : Type 0 where
+pub record SharedSteps (level : ℕ → ℕ) (n : ℕ) (A : ℕ → Equations) (q : ℕ) : Type 0 where
   pub step : (k m : ℕ) → suc (k + m) ≡ n → k < q → Step (level (suc m)) k m (A k) (A (suc k))
 
 -- The steps of one column: its right sides go down, and its answers w over d go up (p w_k is near b_k + Σ_{j>k} T_kj w_j).
-pub record ColumnSteps (level row : ℕ → ℕ) (n : ℕ) (A : ℕ → System) (d : ℕ) (w : ℕ → ℕ) : Type 0 where
+pub record ColumnSteps (level row : ℕ → ℕ) (n : ℕ) (A : ℕ → Equations) (d : ℕ) (w : ℕ → ℕ) : Type 0 where
   pub down : (k m : ℕ) → suc (k + m) ≡ n → RightStep (level (suc m)) k m (A k) (A (suc k))
   pub up :
       (k m : ℕ) → suc (k + m) ≡ n
@@ -39,16 +39,10 @@ unfoldable pub total : (ℕ → ℕ) → (ℕ → ℕ) → ℕ → ℕ
 total level row zero = zero
 total level row (suc m) = total level row m + 2 * m * level (suc m) + row (suc m)
 
--- Theorem: no pivot up to level q is zero, from the shared steps before q alone.
-unfoldable pub PivotsNotZero : Type 0
-PivotsNotZero =
-    (level : ℕ → ℕ) (n : ℕ) (A : ℕ → System) (q : ℕ) → AllOut zero n (A zero) → SharedSteps level n A q
-    → (k m : ℕ) → suc (k + m) ≡ n → k ≤ q → 0 < pivot k m (A k)
-
 -- Theorem: the answers w/d are within the total of the exact solution z/c of the system that the run began with.
 unfoldable pub RunAccuracy : Type 0
 RunAccuracy =
-    (level row : ℕ → ℕ) (n : ℕ) (A : ℕ → System) (c d : ℕ) (w z : ℕ → ℕ)
+    (level row : ℕ → ℕ) (n : ℕ) (A : ℕ → Equations) (c d : ℕ) (w z : ℕ → ℕ)
     → AllOut zero n (A zero) → SharedSteps level n A n → ColumnSteps level row n A d w
     → Solves zero n (A zero) c z
     → (i : ℕ) → i < n → Near (total level row n) (w i * c) (z i * d)

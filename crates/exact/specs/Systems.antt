@@ -13,8 +13,8 @@ pub record Row : Type 0 where
   pub exit : ℕ
   pub right : ℕ
 
-abbrev pub System : Type 0
-System = ℕ → Row
+abbrev pub Equations : Type 0
+Equations = ℕ → Row
 
 -- s + Σ T_j: what stands on the diagonal of the matrix.
 unfoldable pub diag : ℕ → ℕ → Row → ℕ
@@ -25,30 +25,24 @@ unfoldable pub mix : ℕ → ℕ → Row → (ℕ → ℕ) → ℕ
 mix k m row z = sum (λ j. row .size j * z j) k m
 
 -- (s + Σ T_j) z_i = b d + Σ T_j z_j: the row of stage i holds for z over the denominator d.
-abbrev pub Holds : ℕ → ℕ → Row → ℕ → (ℕ → ℕ) → ℕ → Type 0
-Holds k m row d z i = diag k m row * z i ≡ row .right * d + mix k m row z
+abbrev pub RowHolds : ℕ → ℕ → Row → ℕ → (ℕ → ℕ) → ℕ → Type 0
+RowHolds k m row d z i = diag k m row * z i ≡ row .right * d + mix k m row z
 
 -- z over the denominator d solves the system.
-pub record Solves (k m : ℕ) (A : System) (d : ℕ) (z : ℕ → ℕ) : Type 0 where
-  pub row : (i : ℕ) → In k m i → Holds k m (A i) d z i
-
--- p − q over the denominator d solves the system: a solution whose entries may be negative.
-pub record SolvesSigned (k m : ℕ) (A : System) (d : ℕ) (p q : ℕ → ℕ) : Type 0 where
-  pub row :
-      (i : ℕ) → In k m i
-      → diag k m (A i) * p i + mix k m (A i) q ≡ A i .right * d + mix k m (A i) p + diag k m (A i) * q i
+pub record Solves (k m : ℕ) (A : Equations) (d : ℕ) (z : ℕ → ℕ) : Type 0 where
+  pub row : (i : ℕ) → In k m i → RowHolds k m (A i) d z i
 
 -- Which moves and which exits there are: a number that is not zero.
-abbrev pub moves : System → ℕ → ℕ → Bool
+abbrev pub moves : Equations → ℕ → ℕ → Bool
 moves A i j = ltb zero (A i .size j)
 
-abbrev pub exits : System → ℕ → Bool
+abbrev pub exits : Equations → ℕ → Bool
 exits A i = ltb zero (A i .exit)
 
 -- The system gets out: from every stage a chain of nonzero sizes leads to a stage whose exit is not zero.
-pub record AllOut (k m : ℕ) (A : System) : Type 0 where
+pub record AllOut (k m : ℕ) (A : Equations) : Type 0 where
   pub out : (i : ℕ) → In k m i → GetsOut k m (moves A) (exits A) i
 
 -- The same sizes and exits with another right side.
-abbrev pub withRight : System → (ℕ → ℕ) → System
+abbrev pub withRight : Equations → (ℕ → ℕ) → Equations
 withRight A b i = record { size = A i .size; exit = A i .exit; right = b i }

@@ -1,9 +1,1 @@
-pub mod Loops
-pub mod Conditions
-pub mod RatioLaws
-pub mod CompactLaws
-pub mod RangeLaws
-pub mod JoinLaws
-pub mod Joining
-pub mod Keeping
-pub mod Solving
+mod KeptStages

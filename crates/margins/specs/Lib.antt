@@ -1,5 +1,2 @@
-pub mod Ratios
-pub mod Compact
-pub mod Range
-pub mod Join
-pub mod Contracts
+pub mod WayBack
+pub mod MarginsTable

@@ -1,21 +1,17 @@
 -- What the questions before 10 came to, and question 10 after them.
 use mathlib.Core.Path.{_≡_, sym, ap, _∙_}
 use Prim.Native.Nat.{ℕ}
-use native.Mathlib.Omega.{arith}
 use mathlib.Core.Bool.{Bool, true, false}
 use mathlib.Core.List.{List}
 use lib.Ieee.{Float}
 use Rattle.definitions.specs.Table.{everyStepInRange}
-use Rattle.sheet.specs.declared.Asked as sheet
-use Rattle.sheet.specs.Asked.{asked}
+use Rattle.shape.specs.declared.Asked as shape
+use Rattle.shape.specs.Outcome.{asked}
 use Rattle.definitions.specs.Questions.{Asked, pass, refuse, _then_, question10}
 
 -- The code's answer r to the questions q is v.
-pub told : {r v : sheet.Asked} {q : Asked} → asked r ≡ q → r ≡ v → q ≡ asked v
+pub told : {r v : shape.Asked} {q : Asked} → asked r ≡ q → r ≡ v → q ≡ asked v
 told e z = sym e ∙ ap asked z
-
-pub never-both : {q : Asked} {number row column : ℕ} → q ≡ refuse number row column → q ≡ pass → ⊥
-never-both e p = let z : _≡_ {A = ℕ} 0 1 = cc in omega arith
 
 pub after-refusal : {q : Asked} {number row column : ℕ} (next : Asked) → q ≡ refuse number row column → (q then next) ≡ refuse number row column
 after-refusal next e = rw e

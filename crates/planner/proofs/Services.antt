@@ -15,18 +15,17 @@ use Rattle.definitions.specs.Matrix.{matrix, everyStage}
 use Rattle.definitions.specs.Questions.{pass, refuse, _then_, question1, question2, question3, question4, question5, question10, numberQuestions, tableInput, tableQuestions, entryInput, entryQuestions}
 use Rattle.definitions.specs.Accuracy.{Binary64, Within, Accurate}
 use Rattle.definitions.specs.Services.{given, answer, filled, table, tableAnswer, tableArea, entryAnswer}
-use Rattle.elimination.specs.Places.{table32}
-use Rattle.steps.proofs.Tables.{length-rows}
-use Rattle.sheet.proofs.Input.{entry-input-passed}
+use Rattle.tables.specs.RowMajor as working
+use Rattle.steps.proofs.TableLaws.{length-rows, rows-same, place-of-rows}
+use Rattle.shape.proofs.ShapeQuestions.{entry-input-passed}
 use Rattle.accuracy.proofs.Rule.{accurate-table}
-use Rattle.steps.proofs.Questions.{then-first}
+use Rattle.steps.proofs.QuestionLaws.{never-both, then-first}
 use Rattle.accuracy.proofs.Input.{table-numbers, entry-numbers}
 use Rattle.planner.specs.declared.Table.the-variants as given-table
 use Rattle.planner.specs.declared.Entry.the-variants as given-entry
-use Rattle.planner.specs.Readings.{Stepped}
+use Rattle.readings.specs.Stepped.{Stepped}
 use Rattle.planner.specs.Promises.{TableDone, EntryDone}
-use Rattle.steps.proofs.Tables.{rows-same, place-of-rows}
-use Rattle.planner.proofs.Asked.{never-both, after-refusal, out-of-range, in-range}
+use Rattle.planner.proofs.Asked.{after-refusal, out-of-range, in-range}
 use Rattle.exact.proofs.Bools.{holds}
 
 -- Demand 3 looks only at the entries below n.
@@ -58,7 +57,7 @@ module _ (reading n : ℕ) (sheet : List Float) where
     unfolding tableQuestions
     table-refused e = refused-with (after-refusal (question10 reading n sheet) e)
 
-    module _ (passed : tableInput reading n sheet (length before) ≡ pass) {x₀ x : List Float} {ok : Bool} (stepped : Stepped reading n sheet x₀ x ok) where
+    module _ (passed : tableInput reading n sheet (length before) ≡ pass) {x : List Float} {ok : Bool} (stepped : Stepped reading n sheet ok x) where
       pub table-out-of-range : ok ≡ false → TableDone reading n sheet before before (given-table.Refused 10 0 0)
       unfolding tableQuestions
       table-out-of-range e = refused-with (out-of-range reading n sheet passed (stepped .range) e)
@@ -72,12 +71,12 @@ module _ (reading n : ℕ) (sheet : List Float) where
           (holds (sym (stepped .range) ∙ e))
 
       pub table-given : {after : List Float} {allowed : ℕ} → Binary64 sheet → ok ≡ true
-          → after ≡ rows (table32 x) n n ++ drop (n * n) before → allowed ≡ allowance reading n
+          → after ≡ rows (working.table x) n n ++ drop (n * n) before → allowed ≡ allowance reading n
           → TableDone reading n sheet before after (given-table.Allowed allowed)
       unfolding tableAnswer tableArea tableQuestions table
       table-given {after} {allowed} fit e written a =
           let all-asked = in-range reading n sheet passed (stepped .range) e in
-          let same : after ≡ rows (entry reading n sheet) n n ++ drop (n * n) before = written ∙ ap (λ (xs : List Float). xs ++ drop (n * n) before) (rows-same (table32 x) (entry reading n sheet) n n (stepped .entries)) in
+          let same : after ≡ rows (entry reading n sheet) n n ++ drop (n * n) before = written ∙ ap (λ (xs : List Float). xs ++ drop (n * n) before) (rows-same (working.table x) (entry reading n sheet) n n (stepped .entries (holds e))) in
           record {
             answered = ap given a ∙ ap (λ q. answer q (allowance reading n)) (sym all-asked);
             area =
@@ -103,7 +102,7 @@ module _ (reading n : ℕ) (sheet : List Float) where
     unfolding entryQuestions
     entry-refused e = entry-refused-with (after-refusal (question10 reading n sheet) e)
 
-    module _ (passed : entryInput reading n sheet i j ≡ pass) {x₀ x : List Float} {ok : Bool} (stepped : Stepped reading n sheet x₀ x ok) where
+    module _ (passed : entryInput reading n sheet i j ≡ pass) {x : List Float} {ok : Bool} (stepped : Stepped reading n sheet ok x) where
       pub entry-out-of-range : ok ≡ false → EntryDone reading n sheet i j (given-entry.Refused 10 0 0)
       unfolding entryQuestions
       entry-out-of-range e = entry-refused-with (out-of-range reading n sheet passed (stepped .range) e)
@@ -116,11 +115,11 @@ module _ (reading n : ℕ) (sheet : List Float) where
           (entry-numbers reading n sheet i j passed)
           (holds (sym (stepped .range) ∙ e))
 
-      pub entry-given : {value : Float} → Binary64 sheet → ok ≡ true → value ≡ table32 x (i - 1) (j - 1) → EntryDone reading n sheet i j (given-entry.Seconds value)
+      pub entry-given : {value : Float} → Binary64 sheet → ok ≡ true → value ≡ working.table x (i - 1) (j - 1) → EntryDone reading n sheet i j (given-entry.Seconds value)
       unfolding entryAnswer entryQuestions
       entry-given fit e v =
           let stages = entry-input-passed reading n sheet i j passed in
-          let seconds = v ∙ stepped .entries (i - 1) (j - 1) (omega (arith, stages .1)) (omega (arith, stages .2)) in
+          let seconds = v ∙ stepped .entries (holds e) (i - 1) (j - 1) (omega (arith, stages .1)) (omega (arith, stages .2)) in
           record {
             answered = ap given seconds ∙ ap (λ q. answer q (entry reading n sheet (i - 1) (j - 1))) (sym (in-range reading n sheet passed (stepped .range) e));
             accurate = λ p. entry-accurate fit e;

@@ -1,4 +1,2 @@
-pub mod Loading
-pub mod Readings
 pub mod Answers
 pub mod Promises

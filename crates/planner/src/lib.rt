@@ -1,17 +1,11 @@
 // The public services: the whole table with its allowance, and one entry. Neither has a `requires`:
 // the questions of document 01 are asked in its order, and a no ends the call with no place changed.
-mod load;
-mod readings;
-mod write;
-
 ghost use mathlib.Core.Path.{_≡_};
-ghost use Prim.Native.Nat.{_≤_};
 ghost use lib.ListN.{length};
-ghost use Rattle.definitions.specs.Sheet.{allowance};
 ghost use Rattle.definitions.specs.Questions.{pass, tableInput, entryInput};
 ghost use Rattle.planner.specs.Promises.{TableDone, EntryDone};
-use elimination::row;
-use sheet::Asked;
+use tables::row;
+use shape::Asked;
 
 // The answer of the whole table: its allowance, or a refusal.
 pub enum Table {
@@ -37,17 +31,6 @@ pub enum Entry {
     },
 }
 
-// 4n³ for reading 1, 12n³ for reading 2.
-fn allowance_of(reading: usize, n: usize) -> usize
-    requires { ⌜ n ≤ 32 ⌝ }
-    ensures { λ r. ⌜ r ≡ allowance reading n ⌝ }
-{
-    if reading == 1 {
-        return 4 * (n * n * n);
-    }
-    12 * (n * n * n)
-}
-
 // The whole table of a sheet that passed questions 1 to 9. Nothing is written before question 10 passes too.
 fn table_of_sheet(reading: usize, n: usize, sheet: &[f64], answer: &mut [f64]) -> Table
     requires { ⌜ tableInput reading n (now sheet) (length (now answer)) ≡ pass ⌝ }
@@ -55,9 +38,9 @@ fn table_of_sheet(reading: usize, n: usize, sheet: &[f64], answer: &mut [f64]) -
 {
     let mut x = [0.0; 1024];
     if readings::steps(reading, n, sheet, &mut x) {
-        write::write(n, &x, answer);
+        writing::write(n, &x, answer);
         return Table::Allowed {
-            allowance: allowance_of(reading, n),
+            allowance: allowance::allowance_of(reading, n),
         };
     }
     Table::Refused {

@@ -1,33 +1,27 @@
 -- Comparisons of good numbers are the comparisons of their amounts.
-use mathlib.Core.Path.{_≡_, refl, sym, ap, ap₂, _∙_}
-use mathlib.Core.Logic.{inl, inr}
+use mathlib.Core.Path.{_≡_, sym, ap, ap₂, _∙_}
+use mathlib.Core.Logic.{⊎-elim}
 use Prim.Native.Nat.{ℕ, _*_, _^_, _<_}
 use native.Mathlib.Nat.{mul-lt-mul-of-pos-right, lt-of-mul-lt-mul-right, eq-of-mul-eq-mul-right, mul-pos, mul-assoc, mul-comm, mul-right-comm, eq-or-lt-of-le, le-of-lt, le-of-eq}
-use mathlib.Core.Bool.{Bool, true, false, _&&_, _||_}
+use mathlib.Core.Bool.{Bool, false, _||_, and-true}
 use lib.IntN.{ℤ}
-use lib.Dec.{T, leb, ltb, eqb, leb→le, le→leb, ltb→lt, lt→ltb, eqb→eq}
+use lib.Dec.{leb, ltb, eqb, leb→le, le→leb, ltb→lt, lt→ltb, eqb→eq}
 use lib.Pow.{pow-pos}
 use lib.Ieee.{Float, fin, Format, low, up, down, lt, eq, le}
 use lib.Ieee.Fits.{down-pos, eq→eqb}
 use Rattle.rounding.specs.Good.{GoodIn}
 use Rattle.rounding.proofs.Value.{amount, by-parts, value}
-use Rattle.exact.proofs.Bools.{and-true}
-
-pub same-test : (a b : Bool) → (T a → T b) → (T b → T a) → a ≡ b
-same-test true true p q = refl
-same-test true false p q = absurd (p tt)
-same-test false true p q = absurd (q tt)
-same-test false false p q = refl
+use Rattle.exact.proofs.Bools.{same-truth, or-l, or-r, or-cases}
 
 ltb-scale : (a b k : ℕ) → 0 < k → ltb (a * k) (b * k) ≡ ltb a b
 ltb-scale a b k K =
-    same-test (ltb (a * k) (b * k)) (ltb a b)
+    same-truth (ltb (a * k) (b * k)) (ltb a b)
     (λ t. lt→ltb a b (lt-of-mul-lt-mul-right k (ltb→lt (a * k) (b * k) t)))
     (λ t. lt→ltb (a * k) (b * k) (mul-lt-mul-of-pos-right (ltb→lt a b t) K))
 
 pub eqb-scale : (a b k : ℕ) → 0 < k → eqb (a * k) (b * k) ≡ eqb a b
 eqb-scale a b k K =
-    same-test (eqb (a * k) (b * k)) (eqb a b)
+    same-truth (eqb (a * k) (b * k)) (eqb a b)
     (λ t. eq→eqb (eq-of-mul-eq-mul-right k K a b (eqb→eq (a * k) (b * k) t)))
     (λ t. eq→eqb (ap (λ (z : ℕ). z * k) (eqb→eq a b t)))
 
@@ -40,22 +34,10 @@ transfer test scale a p b q u v l P Q L h k =
     ∙ scale u v (p * q) (mul-pos P Q)
 
 le-test : (a b : ℕ) → (ltb a b || eqb a b) ≡ leb a b
-le-test a b = same-test (ltb a b || eqb a b) (leb a b) (forth (ltb a b) (eqb a b) (λ t. le→leb a b (le-of-lt (ltb→lt a b t))) (λ t. le→leb a b (le-of-eq (eqb→eq a b t)))) back
-  where
-    forth : (p q : Bool) {r : Type 0} → (T p → r) → (T q → r) → T (p || q) → r
-    forth true q h k t = h tt
-    forth false q h k t = k t
-
-    left : (p q : Bool) → T p → T (p || q)
-    left true q t = tt
-    left false q t = absurd t
-
-    right : (p q : Bool) → T q → T (p || q)
-    right true q t = tt
-    right false q t = t
-
-    back : T (leb a b) → T (ltb a b || eqb a b)
-    back t = elim (eq-or-lt-of-le (leb→le a b t)) [ inl e ↦ right (ltb a b) (eqb a b) (eq→eqb e) | inr l ↦ left (ltb a b) (eqb a b) (lt→ltb a b l) ]
+le-test a b =
+    same-truth (ltb a b || eqb a b) (leb a b)
+    (λ t. le→leb a b (⊎-elim (λ l. le-of-lt (ltb→lt a b l)) (λ e. le-of-eq (eqb→eq a b e)) (or-cases (ltb a b) (eqb a b) t)))
+    (λ t. ⊎-elim (λ e. or-r (ltb a b) (eqb a b) (eq→eqb e)) (λ l. or-l (ltb a b) (eqb a b) (lt→ltb a b l)) (eq-or-lt-of-le (leb→le a b t)))
 
 parts-lt : (f : Format) (m : ℕ) (e : ℤ) (n : ℕ) (d : ℤ) → GoodIn f (fin false m e) → GoodIn f (fin false n d)
     → lt (fin false m e) (fin false n d) ≡ ltb (amount f (fin false m e)) (amount f (fin false n d))

@@ -1,12 +1,12 @@
 -- Finiteness backwards, for every Float: a finite sum or product has finite operands, a finite quotient a finite dividend; and x ⊖ x is zero exactly where x is finite.
 use mathlib.Core.Path.{_≡_, refl, ap, _∙_}
 use Prim.Native.Nat.{ℕ, _-_, _*_, _<_}
-use native.Mathlib.Nat.{sub-self, lt-irrefl, mul-pos}
+use native.Mathlib.Nat.{sub-self, le-refl, mul-pos}
 use mathlib.Core.Bool.{Bool, true, false, not, cond, Bool·beq}
-use lib.Dec.{T, ltb, eqb, ltb→lt, not-T}
+use lib.Dec.{T, eqb}
 use lib.Ieee.{Float, nan, inf, fin, Format, binary64, unlike, up, down, round, sum, add, sub, mul, div, eq}
-use lib.Ieee.Bits.{is-false}
 use lib.Ieee.Fits.{down-pos}
+use borrow.Author.Tests.{le-ltb}
 use Rattle.definitions.specs.Numbers.{_⊕_, _⊖_, _⊗_, _⊘_, 0·0, finite, isZero}
 use Rattle.rounding.proofs.Round.{round-zero}
 
@@ -44,16 +44,20 @@ quotient-finite (inf s) (inf r) t = absurd t
 quotient-finite (inf s) (fin r n d) t = absurd t
 quotient-finite (fin s m e) y t = tt
 
--- ---- a difference of equals
-not-below : (a : ℕ) → ltb a a ≡ false
-not-below a = is-false (ltb a a) (not-T (ltb a a) (λ t. lt-irrefl a (ltb→lt a a t)))
+-- A zero is finite.
+pub zero-finite : (x : Float) → T (isZero x) → T (finite x)
+unfolding isZero eq finite
+zero-finite nan t = t
+zero-finite (inf s) t = t
+zero-finite (fin s m e) t = tt
 
+-- ---- a difference of equals
 pub sum-cancels : (f : Format) (s : Bool) (a c : ℕ) → 0 < c → sum f s a (not s) a c ≡ 0·0
 unfolding sum
 sum-cancels f true a c C =
-    ap (λ (b : Bool). cond b (round f false (a - a) c) (round f b (a - a) c)) (not-below a) ∙ ap (λ (d : ℕ). round f false d c) (sub-self a) ∙ round-zero f c C
+    ap (λ (b : Bool). cond b (round f false (a - a) c) (round f b (a - a) c)) (le-ltb a a (le-refl a)) ∙ ap (λ (d : ℕ). round f false d c) (sub-self a) ∙ round-zero f c C
 sum-cancels f false a c C =
-    ap (λ (b : Bool). cond b (round f true (a - a) c) (round f false (a - a) c)) (not-below a) ∙ ap (λ (d : ℕ). round f false d c) (sub-self a) ∙ round-zero f c C
+    ap (λ (b : Bool). cond b (round f true (a - a) c) (round f false (a - a) c)) (le-ltb a a (le-refl a)) ∙ ap (λ (d : ℕ). round f false d c) (sub-self a) ∙ round-zero f c C
 
 zero-is-zero : isZero 0·0 ≡ true
 unfolding isZero eq

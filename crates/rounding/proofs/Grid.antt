@@ -51,28 +51,28 @@ pub closest-exact : (q u : ℕ) → 0 < u → closest (q * u) u ≡ q
 closest-exact q u U = let h = half (q * u) u U in le-antisymm (no-more (closest (q * u) u) q u U (h .over)) (no-more q (closest (q * u) u) u U (h .short))
 
 -- ---- x and y within one part in B of each other
-pub record Within (B x y : ℕ) : Type 0 where
+pub record OnePartIn (B x y : ℕ) : Type 0 where
   pub upper : x * B ≤ y * suc B
   pub lower : y * B ≤ x * suc B
 
-pub within-same : (B x : ℕ) → Within B x x
+pub within-same : (B x : ℕ) → OnePartIn B x x
 within-same B x = record { upper = omega arith; lower = omega arith }
 
-pub within-cancel : (B x y l : ℕ) → 0 < l → Within B (x * l) (y * l) → Within B x y
+pub within-cancel : (B x y l : ℕ) → 0 < l → OnePartIn B (x * l) (y * l) → OnePartIn B x y
 within-cancel B x y l L w =
     let a : x * B * l ≤ y * suc B * l = omega arith in
     let b : y * B * l ≤ x * suc B * l = omega arith in
     record { upper = le-of-mul-le-mul-right a L; lower = le-of-mul-le-mul-right b L }
 
 -- So one is zero where the other is.
-pub within-zero : (B x y : ℕ) → 0 < B → Within B x y → (x ≡ 0) ↔ (y ≡ 0)
+pub within-zero : (B x y : ℕ) → 0 < B → OnePartIn B x y → (x ≡ 0) ↔ (y ≡ 0)
 within-zero B x y P w = (λ e. none y x (w .lower) e, λ e. none x y (w .upper) e)
   where
     none : (a b : ℕ) → a * B ≤ b * suc B → b ≡ 0 → a ≡ 0
     none a b h e = eq-of-mul-eq-mul-right B P a 0 (le-antisymm (le-trans h (le-of-eq (ap (λ (z : ℕ). z * suc B) e ∙ zero-mul (suc B) ∙ sym (zero-mul B)))) (rw zero-mul zero-le))
 
 -- n / c in the normal range: its whole part has p digits at least. Then a half of the last digit is one part in 2 ^ p at most.
-near : (H n k u : ℕ) → Half n u k → H * u ≤ n → H ≤ k → Within (2 * H) (k * u) n
+near : (H n k u : ℕ) → Half n u k → H * u ≤ n → H ≤ k → OnePartIn (2 * H) (k * u) n
 near H n k u h w l =
     let a = mul-le-mul-right H (h .over) in
     let b = mul-le-mul-right H (h .short) in
@@ -100,8 +100,8 @@ module _ (p n c : ℕ) (P : 0 < p) (C : 0 < c) (N : p ≤ size (n / c)) where
   kept-ge : 2 ^ (p - 1) ≤ kept p n c
   kept-ge = le-trans (le-div-iff-mul-le unit-pos .1 fraction-ge) (nearest-ge (n / (c * 2 ^ drop p n c)) (compare (n % (c * 2 ^ drop p n c) * 2) (c * 2 ^ drop p n c)))
 
-  pub kept-near : Within (2 ^ p) (kept p n c * 2 ^ drop p n c * c) n
+  pub kept-near : OnePartIn (2 ^ p) (kept p n c * 2 ^ drop p n c * c) n
   kept-near =
       rw (twice p P)
-      (subst (λ (x : ℕ). Within (2 * 2 ^ (p - 1)) x n) (ap (λ (x : ℕ). kept p n c * x) (mul-comm c (2 ^ drop p n c)) ∙ sym (mul-assoc (kept p n c) (2 ^ drop p n c) c))
+      (subst (λ (x : ℕ). OnePartIn (2 * 2 ^ (p - 1)) x n) (ap (λ (x : ℕ). kept p n c * x) (mul-comm c (2 ^ drop p n c)) ∙ sym (mul-assoc (kept p n c) (2 ^ drop p n c) c))
       (near (2 ^ (p - 1)) n (kept p n c) (c * 2 ^ drop p n c) (half n (c * 2 ^ drop p n c) unit-pos) fraction-ge kept-ge))

@@ -1,9 +1,9 @@
 -- The laws of `specs/Laws.antt`: what `Operations.antt` says of every format, at binary64.
 use mathlib.Core.Path.{_≡_, refl, sym, ap, ap₂, _∙_, subst}
 use mathlib.Core.Logic.{_⊎_, inl, inr}
-use Prim.Native.Nat.{ℕ, zero, _+_, _-_, _*_, _^_, _<_}
+use Prim.Native.Nat.{ℕ, _+_, _-_, _*_, _^_, _<_}
 use native.Mathlib.Nat.{zero-mul, mul-zero, lt-irrefl}
-use mathlib.Core.Bool.{Bool, true, false, _&&_, _||_}
+use mathlib.Core.Bool.{false, _&&_, _||_}
 use lib.IntN.{negsuc}
 use lib.Dec.{T, eqb, ltb, ltb→lt, eqb→eq, leb, le→leb, T-not}
 use lib.Pow.{pow-pos}
@@ -15,8 +15,8 @@ use Rattle.exact.specs.Near.{base, next}
 use Rattle.definitions.specs.Numbers.{_⊕_, _⊗_, _⊘_, 0·0, 1·0, smallest, finite, isZero, addInRange, mulInRange, divInRange, units}
 use Rattle.rounding.specs.Good.{Good, one·units}
 use Rattle.rounding.specs.Laws.{Rounded, SumRounds, ProductRounds, QuotientRounds, ProductAboveRounds, QuotientAboveRounds, TooFar, UnitsAreExact}
-use Rattle.rounding.proofs.Value.{amount, value, unique}
-use Rattle.rounding.proofs.Grid.{Within, within-same, within-zero}
+use Rattle.rounding.proofs.Value.{amount, value, unique, by-parts}
+use Rattle.rounding.proofs.Grid.{OnePartIn, within-same, within-zero}
 use Rattle.rounding.proofs.Round.{zero-good, zero-amount}
 use Rattle.rounding.proofs.Compare.{lt-amounts, eq-amounts}
 use Rattle.rounding.proofs.Operations.{add-good, add-near, mul-good, mul-near, div-good, div-near, mul-of-zero, div-of-zero, divisor-pos}
@@ -33,11 +33,19 @@ pub one-is : one·units ≡ 2 ^ low binary64
 unfolding one·units
 one-is = refl
 
+pub one-pos : 0 < one·units
+unfolding one·units
+one-pos = pow-pos 1074
+
 pub finite-is : (x : Float) → finite x ≡ Scale.finite x
 unfolding finite
 finite-is nan = refl
 finite-is (inf s) = refl
 finite-is (fin s m e) = refl
+
+pub good-finite : {x : Float} → Good x → T (finite x)
+unfolding finite
+good-finite {x} g = by-parts binary64 (λ x. T (finite x)) (λ m e g. tt) x g
 
 -- ---- units are exactly the number, and tell it
 pub units-value : {x : Float} → Good x → HasValue x false (units x) one·units
@@ -72,7 +80,7 @@ pub units-smallest : units smallest ≡ 2 ^ 52
 unfolding units
 units-smallest = refl
 
-within-near : (x y : ℕ) → Within (2 ^ prec binary64) x y → Rounded x y
+within-near : (x y : ℕ) → OnePartIn (2 ^ prec binary64) x y → Rounded x y
 unfolding base next
 within-near x y w = record { near = record { upper = w .upper; lower = w .lower }; zero = within-zero (2 ^ prec binary64) x y (pow-pos (prec binary64)) w }
 

@@ -7,10 +7,11 @@ pub mod Laws
 pub mod Order
 pub mod Reversed
 pub mod Finite
-pub mod Sums
+pub mod RoundedSums
 pub mod Zeros
-pub mod Range
-pub mod Steps
+pub mod AnyNumbers
+pub mod ProductRange
+pub mod ResultRange
 pub mod Words
 pub mod Powers
 pub mod Scaling

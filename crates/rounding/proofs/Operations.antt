@@ -1,8 +1,8 @@
 -- On good numbers add, multiply and divide are `round` of a fraction of whole numbers; the laws follow from that.
-use mathlib.Core.Path.{_≡_, sym, ap, ap₂, _∙_, subst}
+use mathlib.Core.Path.{_≡_, sym, ap, ap₂, _∙_}
 use mathlib.Core.Logic.{inl, inr}
-use Prim.Native.Nat.{ℕ, _+_, _-_, _*_, _^_, _≤_, _<_, zero-le}
-use native.Mathlib.Nat.{mul-pos, mul-assoc, mul-mul-mul-comm, eq-of-mul-eq-mul-right, lt-irrefl, add-zero, zero-add, eq-zero-or-pos, mul-le-mul-right, mul-le-mul, add-le-add, lt-of-lt-of-le, le-refl, le-trans, le-of-eq}
+use Prim.Native.Nat.{ℕ, _+_, _-_, _*_, _^_, _≤_, _<_}
+use native.Mathlib.Nat.{mul-pos, mul-assoc, mul-mul-mul-comm, eq-of-mul-eq-mul-right, lt-irrefl, add-zero, zero-add, eq-zero-or-pos, mul-le-mul-right, mul-le-mul}
 use native.Mathlib.Omega.{arith}
 use mathlib.Core.Bool.{Bool, true, false, not, cond}
 use lib.IntN.{ℤ, pos}
@@ -16,7 +16,7 @@ use lib.Ieee.Positive.{first-pos}
 use Rattle.rounding.specs.Good.{GoodIn}
 use Rattle.rounding.proofs.Value.{amount, value, unique, by-parts}
 use Rattle.rounding.proofs.Compare.{by-both}
-use Rattle.rounding.proofs.Grid.{Within, within-cancel}
+use Rattle.rounding.proofs.Grid.{OnePartIn, within-cancel}
 use Rattle.rounding.proofs.Round.{round-good, round-above, round-back, round-zero, whole-near, zero-good, zero-amount, Below, round-below}
 
 -- ---- the fractions: a / p is u / l and b / q is v / l
@@ -91,14 +91,14 @@ module _ {f : Format} {x y : Float} (g : GoodIn f x) (h : GoodIn f y) where
   pub add-good : T (finite (add f x y)) → GoodIn f (add f x y)
   add-good = rw (add-is g h) (round-good f (amount f x + amount f y) (2 ^ low f))
 
-  pub add-near : T (finite (add f x y)) → Within (2 ^ prec f) (amount f (add f x y)) (amount f x + amount f y)
+  pub add-near : T (finite (add f x y)) → OnePartIn (2 ^ prec f) (amount f (add f x y)) (amount f x + amount f y)
   add-near = rw (add-is g h) (whole-near f (amount f x + amount f y))
 
   pub mul-good : T (finite (mul f x y)) → GoodIn f (mul f x y)
   mul-good = rw (mul-is g h) (round-good f (amount f x * amount f y) (2 ^ low f * 2 ^ low f))
 
   -- Above 2 ^ (prec - 1) smallest values the result has all the digits that the format keeps.
-  pub mul-near : T (finite (mul f x y)) → 2 ^ (prec f - 1) < amount f (mul f x y) → Within (2 ^ prec f) (amount f (mul f x y) * 2 ^ low f) (amount f x * amount f y)
+  pub mul-near : T (finite (mul f x y)) → 2 ^ (prec f - 1) < amount f (mul f x y) → OnePartIn (2 ^ prec f) (amount f (mul f x y) * 2 ^ low f) (amount f x * amount f y)
   mul-near =
       rw (mul-is g h) (λ t n.
       within-cancel (2 ^ prec f) (amount f (round f false (amount f x * amount f y) (2 ^ low f * 2 ^ low f)) * 2 ^ low f) (amount f x * amount f y) (2 ^ low f) (pow-pos (low f))
@@ -107,7 +107,7 @@ module _ {f : Format} {x y : Float} (g : GoodIn f x) (h : GoodIn f y) where
   pub div-good : 0 < amount f y → T (finite (div f x y)) → GoodIn f (div f x y)
   div-good N = rw (div-is g h N) (round-good f (amount f x) (amount f y))
 
-  pub div-near : 0 < amount f y → T (finite (div f x y)) → 2 ^ (prec f - 1) < amount f (div f x y) → Within (2 ^ prec f) (amount f (div f x y) * amount f y) (amount f x * 2 ^ low f)
+  pub div-near : 0 < amount f y → T (finite (div f x y)) → 2 ^ (prec f - 1) < amount f (div f x y) → OnePartIn (2 ^ prec f) (amount f (div f x y) * amount f y) (amount f x * 2 ^ low f)
   div-near N = rw (div-is g h N) (λ t n. round-above f (amount f x) (amount f y) t N n)
 
   -- ---- a zero operand
@@ -132,9 +132,6 @@ module _ {f : Format} {x y : Float} (g : GoodIn f x) (h : GoodIn f y) where
       ∙ round-same f false (amount f x * l) (l * l) (amount f x) l (mul-pos (pow-pos (low f)) (pow-pos (low f))) (pow-pos (low f)) (mul-assoc (amount f x) l l)
       ∙ round-back g
 
-  pub div-of-one : amount f y ≡ 2 ^ low f → div f x y ≡ x
-  div-of-one e = div-is g h (rw e (pow-pos (low f))) ∙ ap (round f false (amount f x)) e ∙ round-back g
-
   -- a finite quotient has a divisor that is not zero
   pub divisor-pos : T (finite (div f x y)) → 0 < amount f y
   divisor-pos t = elim (eq-zero-or-pos (amount f y)) [
@@ -142,33 +139,10 @@ module _ {f : Format} {x y : Float} (g : GoodIn f x) (h : GoodIn f y) where
     | inr p ↦ p
   ]
 
--- ---- larger operands give no smaller result, and if that is finite, so is the smaller
+-- ---- larger factors give no smaller product, and if that is finite, so is the smaller
 module _ {f : Format} {x x' y y' : Float} (g : GoodIn f x) (g' : GoodIn f x') (h : GoodIn f y) (h' : GoodIn f y') (p : amount f x ≤ amount f x') where
-  pub add-below : amount f y ≤ amount f y' → T (finite (add f x' y')) → Below f (add f x y) (add f x' y')
-  add-below q =
-      rw (add-is g h, add-is g' h')
-      (round-below f (amount f x + amount f y) (2 ^ low f) (amount f x' + amount f y') (2 ^ low f) (pow-pos (low f)) (pow-pos (low f)) (mul-le-mul-right (2 ^ low f) (add-le-add p q)))
-
   pub mul-below : amount f y ≤ amount f y' → T (finite (mul f x' y')) → Below f (mul f x y) (mul f x' y')
   mul-below q =
       let l = 2 ^ low f * 2 ^ low f in
       let L : 0 < l = mul-pos (pow-pos (low f)) (pow-pos (low f)) in
       rw (mul-is g h, mul-is g' h') (round-below f (amount f x * amount f y) l (amount f x' * amount f y') l L L (mul-le-mul-right l (mul-le-mul p q)))
-
-  -- a quotient grows as its divisor falls
-  pub div-below : 0 < amount f y' → amount f y' ≤ amount f y → T (finite (div f x' y')) → Below f (div f x y) (div f x' y')
-  div-below n q =
-      let n' : 0 < amount f y = lt-of-lt-of-le n q in
-      rw (div-is g h n', div-is g' h' n) (round-below f (amount f x) (amount f y) (amount f x') (amount f y') n' n (mul-le-mul p q))
-
--- ---- a sum is no smaller than its terms
-module _ {f : Format} {x y : Float} (g : GoodIn f x) (h : GoodIn f y) (t : T (finite (add f x y))) where
-  pub add-left-below : Below f x (add f x y)
-  add-left-below =
-      subst (λ (z : Float). Below f z (add f x y)) (add-zero-right g (zero-good f) (zero-amount f))
-      (add-below g g (zero-good f) h (le-refl (amount f x)) (le-trans (le-of-eq (zero-amount f)) zero-le) t)
-
-  pub add-right-below : Below f y (add f x y)
-  add-right-below =
-      subst (λ (z : Float). Below f z (add f x y)) (add-zero-left (zero-good f) h (zero-amount f))
-      (add-below (zero-good f) g h h (le-trans (le-of-eq (zero-amount f)) zero-le) (le-refl (amount f y)) t)

@@ -17,7 +17,7 @@ use lib.Ieee.Scale.{grid, overflow, finite, round-val, round-under, round-same, 
 use Rattle.rounding.specs.Good.{GoodIn}
 use Rattle.rounding.proofs.Value.{amount, amount-of-value, of-value, unique, Digits, digits, amount-lt}
 use Rattle.rounding.proofs.Compare.{le-amounts}
-use Rattle.rounding.proofs.Grid.{Within, within-same, within-cancel, kept-near, closest-exact}
+use Rattle.rounding.proofs.Grid.{OnePartIn, within-same, within-cancel, kept-near, closest-exact}
 
 module _ (f : Format) (a c : ℕ) (t : T (finite (round f false a c))) where
   round-value : HasValue (round f false a c) false (grid f a c) (2 ^ low f)
@@ -30,11 +30,11 @@ module _ (f : Format) (a c : ℕ) (t : T (finite (round f false a c))) where
   round-amount = amount-of-value f (round f false a c) false (grid f a c) round-value
 
   -- in the normal range
-  round-near : 0 < c → prec f ≤ size (a * 2 ^ low f / c) → Within (2 ^ prec f) (amount f (round f false a c) * c) (a * 2 ^ low f)
+  round-near : 0 < c → prec f ≤ size (a * 2 ^ low f / c) → OnePartIn (2 ^ prec f) (amount f (round f false a c) * c) (a * 2 ^ low f)
   round-near C N = rw round-amount (kept-near (prec f) (a * 2 ^ low f) c (two-le-pos (prec f) (two f)) C N)
 
   -- that is, where the result is above 2 ^ (prec - 1) smallest values
-  pub round-above : 0 < c → 2 ^ (prec f - 1) < amount f (round f false a c) → Within (2 ^ prec f) (amount f (round f false a c) * c) (a * 2 ^ low f)
+  pub round-above : 0 < c → 2 ^ (prec f - 1) < amount f (round f false a c) → OnePartIn (2 ^ prec f) (amount f (round f false a c) * c) (a * 2 ^ low f)
   round-above C n = round-near C (normal-of-rounded f a c (rw round-amount at n))
 
 -- ---- a whole number of smallest values with few digits is not changed: nothing is dropped but zeros
@@ -82,10 +82,10 @@ pub many-digits : (f : Format) (a : ℕ) → 2 ^ prec f ≤ a → prec f ≤ siz
 many-digits f a h = normal-of-fraction f a (2 ^ low f) (pow-pos (low f)) (mul-le-mul-right (2 ^ low f) (le-trans (pow-mono (sub-le (prec f) 1)) h))
 
 -- A whole number of smallest values: near whatever its size.
-pub whole-near : (f : Format) (a : ℕ) → T (finite (round f false a (2 ^ low f))) → Within (2 ^ prec f) (amount f (round f false a (2 ^ low f))) a
+pub whole-near : (f : Format) (a : ℕ) → T (finite (round f false a (2 ^ low f))) → OnePartIn (2 ^ prec f) (amount f (round f false a (2 ^ low f))) a
 whole-near f a t = go (ltb a (2 ^ prec f)) (ltb→lt a (2 ^ prec f)) (nltb→le a (2 ^ prec f))
   where
-    go : (b : Bool) → (T b → a < 2 ^ prec f) → (T (not b) → 2 ^ prec f ≤ a) → Within (2 ^ prec f) (amount f (round f false a (2 ^ low f))) a
+    go : (b : Bool) → (T b → a < 2 ^ prec f) → (T (not b) → 2 ^ prec f ≤ a) → OnePartIn (2 ^ prec f) (amount f (round f false a (2 ^ low f))) a
     go true l g = rw (small-amount f a (l tt)) (within-same (2 ^ prec f) a)
     go false l g = within-cancel (2 ^ prec f) (amount f (round f false a (2 ^ low f))) a (2 ^ low f) (pow-pos (low f)) (round-near f a (2 ^ low f) t (pow-pos (low f)) (many-digits f a (g tt)))
 

@@ -1,13 +1,13 @@
--- 64-bit words and numbers: which words are NaN patterns, and the round trips.
+-- 64-bit words and numbers: which words are NaN patterns, and the words of the numbers in the code.
 use mathlib.Core.Path.{_≡_, refl, sym, ap, _∙_}
-use Prim.Native.Nat.{ℕ, _%_, _^_, _<_, _≤_}
+use Prim.Native.Nat.{ℕ, _%_, _<_, _≤_}
 use mathlib.Core.Bool.{true, false, not, true≢false}
 use lib.Dec.{T, lt→ltb}
 use lib.Arith.{le→nltb}
-use lib.Ieee.{Float, nan, inf, fin, binary64, fits, isNan, ofBits, toBits, nanBits, div, ne}
-use lib.Ieee.Bits.{ofBits-toBits, toBits-lt, toBits-ofBits, nanBits-is, nanBits-above}
+use lib.Ieee.{Float, nan, inf, fin, binary64, isNan, ofBits, toBits, nanBits, div, ne}
+use lib.Ieee.Bits.{nanBits-is, nanBits-above}
 use lib.Ieee.Compare.{differs-from-itself}
-use Rattle.definitions.specs.Numbers.{0·0, 1·0}
+use Rattle.definitions.specs.Numbers.{0·0, 1·0, smallest}
 
 -- The word of plus infinity; above it, the sign taken off, are the NaN patterns.
 abbrev infinity : ℕ
@@ -41,17 +41,7 @@ not-nan nan e = absurd (true≢false e)
 not-nan (inf s) e = tt
 not-nan (fin s m e) h = tt
 
--- ---- the round trips
-pub word-of-number : (x : Float) → T (fits binary64 x) → ofBits binary64 (toBits binary64 x) ≡ x
-word-of-number x t = ofBits-toBits binary64 x t
-
-pub word-lt : (x : Float) → T (fits binary64 x) → toBits binary64 x < 2 ^ 64
-word-lt x t = toBits-lt binary64 x t
-
-pub number-of-word : (w : ℕ) → w < 2 ^ 64 → T (not (nanBits binary64 w)) → toBits binary64 (ofBits binary64 w) ≡ w
-number-of-word w h n = toBits-ofBits binary64 w h (rw (← nanBits-is binary64 w) n)
-
--- The numbers 0.0 and 1.0 of the code.
+-- The literals 0.0, 1.0 and 2.2250738585072014e-308, as the programs have them.
 pub zero-word : ofBits binary64 0 ≡ 0·0
 unfolding ofBits
 zero-word = refl
@@ -59,3 +49,7 @@ zero-word = refl
 pub one-word : ofBits binary64 4607182418800017408 ≡ 1·0
 unfolding ofBits
 one-word = refl
+
+pub smallest-word : ofBits binary64 4503599627370496 ≡ smallest
+unfolding ofBits
+smallest-word = refl

@@ -11,7 +11,7 @@ use Rattle.definitions.specs.Numbers.{_⊕_, _⊖_, _⊗_, _⊘_, 0·0, 1·0, f
 use Rattle.rounding.specs.Good.{Good}
 use Rattle.rounding.proofs.Value.{amount, amount-of-value}
 use Rattle.rounding.proofs.Round.{zero-amount}
-use Rattle.rounding.proofs.Operations.{add-zero-left, add-zero-right, mul-of-zero, div-of-zero, mul-of-one, div-of-one}
+use Rattle.rounding.proofs.Operations.{add-zero-left, add-zero-right, mul-of-zero, div-of-zero, mul-of-one}
 use Rattle.rounding.proofs.Laws.{units-is, one-is, unique-units, zero-is-good, units-zero, one-is-good, units-one}
 use Rattle.rounding.proofs.Order.{lt-units}
 use Rattle.rounding.proofs.Finite.{sum-cancels}
@@ -34,9 +34,6 @@ module _ {x : Float} (g : Good x) where
 
   pub times-one : x ⊗ 1·0 ≡ x
   times-one = mul-of-one g one-is-good (sym (units-is 1·0) ∙ units-one ∙ one-is)
-
-  pub over-one : x ⊘ 1·0 ≡ x
-  over-one = div-of-one g one-is-good (sym (units-is 1·0) ∙ units-one ∙ one-is)
 
 -- The number c is the size of a: good, and as far from zero as a.
 pub record IsSize (a c : Float) : Type 0 where

@@ -32,10 +32,14 @@ QuotientRounds = (x y : Float) → Good x → Good y → T (divInRange x y) → 
 
 -- The same where neither number is zero: above 2^-1022 the result has all its digits.
 abbrev pub ProductAboveRounds : Type 0
-ProductAboveRounds = (x y : Float) → Good x → Good y → T (finite (x ⊗ y)) → T (lt smallest (x ⊗ y)) → Rounded (units (x ⊗ y) * one·units) (units x * units y)
+ProductAboveRounds =
+    (x y : Float) → Good x → Good y → T (finite (x ⊗ y)) → T (lt smallest (x ⊗ y))
+    → Rounded (units (x ⊗ y) * one·units) (units x * units y)
 
 abbrev pub QuotientAboveRounds : Type 0
-QuotientAboveRounds = (x y : Float) → Good x → Good y → T (finite (x ⊘ y)) → T (lt smallest (x ⊘ y)) → Rounded (units (x ⊘ y) * units y) (units x * one·units)
+QuotientAboveRounds =
+    (x y : Float) → Good x → Good y → T (finite (x ⊘ y)) → T (lt smallest (x ⊘ y))
+    → Rounded (units (x ⊘ y) * units y) (units x * one·units)
 
 -- "At least 2^-1022" is not enough: a product can round up to 2^-1022 by more than one rounding.
 pub record TooFar : Type 0 where

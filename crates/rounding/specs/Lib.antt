@@ -1,4 +1,4 @@
 pub mod Good
 pub mod Laws
-pub mod Steps
+pub mod ResultRange
 pub mod Scaling

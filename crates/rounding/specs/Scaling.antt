@@ -23,14 +23,18 @@ abbrev pub PowerUpScales : Type 0
 PowerUpScales = (k : ℕ) (x : Float) → Good x → Good (power (pos k)) → T (finite (x ⊗ power (pos k))) → Scaled k x (x ⊗ power (pos k))
 
 abbrev pub PowerDownScales : Type 0
-PowerDownScales = (k : ℕ) (x : Float) → Good x → Good (power (negsuc k)) → 2 ^ 52 * 2 ^ suc k ≤ units x → Scaled (suc k) (x ⊗ power (negsuc k)) x
+PowerDownScales =
+    (k : ℕ) (x : Float) → Good x → Good (power (negsuc k)) → 2 ^ 52 * 2 ^ suc k ≤ units x
+    → Scaled (suc k) (x ⊗ power (negsuc k)) x
 
 -- The larger result has to be finite, and a product or quotient that is not zero has to be above 2^-1022 on the smaller side.
 abbrev pub SumScales : Type 0
 SumScales = (k : ℕ) (x x' y y' : Float) → Scaled k x x' → Scaled k y y' → T (addInRange x' y') → Scaled k (x ⊕ y) (x' ⊕ y')
 
 abbrev pub ProductScales : Type 0
-ProductScales = (j k : ℕ) (x x' y y' : Float) → Scaled j x x' → Scaled k y y' → T (mulInRange x y) → T (finite (x' ⊗ y')) → Scaled (j + k) (x ⊗ y) (x' ⊗ y')
+ProductScales =
+    (j k : ℕ) (x x' y y' : Float) → Scaled j x x' → Scaled k y y' → T (mulInRange x y) → T (finite (x' ⊗ y'))
+    → Scaled (j + k) (x ⊗ y) (x' ⊗ y')
 
 abbrev pub DividendScales : Type 0
 DividendScales = (k : ℕ) (x x' y : Float) → Scaled k x x' → Good y → T (divInRange x y) → T (finite (x' ⊘ y)) → Scaled k (x ⊘ y) (x' ⊘ y)

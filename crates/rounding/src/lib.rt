@@ -3,7 +3,7 @@
 ghost use mathlib.Core.Path.{_≡_};
 ghost use lib.Ieee.{binary64, ofBits, toBits};
 ghost use Rattle.definitions.specs.Numbers.{_⊕_, _⊗_, _⊘_, finite, addInRange, mulInRange, divInRange};
-ghost use Rattle.rounding.specs.Steps.{resultInRange};
+ghost use Rattle.rounding.specs.ResultRange.{resultInRange};
 
 // Whether x is neither a NaN nor an infinity.
 pub fn is_finite(x: f64) -> bool

@@ -1,11 +1,1 @@
-pub mod Bools
-pub mod Then
-pub mod Shape
-pub mod Rows
-pub mod Places
-pub mod Quick
-pub mod Counts
-pub mod Stages
-pub mod Marking
-pub mod Input
-pub mod Chains
+pub mod InOrder

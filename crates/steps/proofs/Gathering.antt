@@ -1,7 +1,7 @@
 -- Loops that gather a test, a sum, or the tests of a sum's additions: their invariants, and what a turn does to each.
 use mathlib.Core.Path.{_≡_, ap, _∙_}
-use Prim.Native.Nat.{ℕ, suc, _+_, _-_, _≤_, _<_}
-use native.Mathlib.Nat.{le-refl, le-antisymm, sub-zero}
+use Prim.Native.Nat.{ℕ, suc, _+_, _-_, _≤_}
+use native.Mathlib.Nat.{le-refl, le-antisymm, sub-zero, add-sub-of-le}
 use native.Mathlib.Omega.{arith}
 use mathlib.Core.Bool.{Bool, true, _&&_}
 use lib.Ieee.{Float}
@@ -26,9 +26,6 @@ none-left lo = omega arith
 one-more : (lo j : ℕ) → lo ≤ j → j + 1 - lo ≡ suc (j - lo)
 one-more lo j l = omega arith
 
-due : (lo j : ℕ) → lo ≤ j → lo + (j - lo) ≡ j
-due lo j l = omega arith
-
 pub gathered-begins : {p : ℕ → Bool} {lo j : ℕ} → j ≡ lo → Gathered p lo j true
 unfolding all
 gathered-begins {p} {lo} {j} e = rw e (record { from = le-refl lo; is = rw (none-left lo) })
@@ -37,7 +34,7 @@ module _ {p : ℕ → Bool} {lo j : ℕ} {ok : Bool} (h : Gathered p lo j ok) wh
   pub gathered-turns : {now : Bool} → now ≡ p j → Gathered p lo (j + 1) (ok && now)
   unfolding all
   gathered-turns e =
-      record { from = omega (arith, h .from); is = rw (one-more lo j (h .from)) (rw (h .is, e, due lo j (h .from))) }
+      record { from = omega (arith, h .from); is = rw (one-more lo j (h .from)) (rw (h .is, e, add-sub-of-le (h .from))) }
 
   pub gathered-ends : {hi : ℕ} → j ≤ hi → hi ≤ j → ok ≡ all p lo (hi - lo)
   gathered-ends l m = rw (le-antisymm l m) at (h .is)
@@ -58,14 +55,14 @@ module _ {start : Float} {f : ℕ → Float} {lo : ℕ} where
     pub summed-turns : {y : Float} → y ≡ f j → Summed start f lo (j + 1) (x ⊕ y)
     unfolding sum
     summed-turns e =
-        record { from = omega (arith, h .from); is = rw (one-more lo j (h .from)) (rw (h .is, e, due lo j (h .from))) }
+        record { from = omega (arith, h .from); is = rw (one-more lo j (h .from)) (rw (h .is, e, add-sub-of-le (h .from))) }
 
     pub summed-ends : {hi : ℕ} → j ≤ hi → hi ≤ j → x ≡ sum start f lo (hi - lo)
     summed-ends l m = rw (le-antisymm l m) at (h .is)
 
     pub sum-gathered-turns : {ok now : Bool} {y : Float} → SumGathered start f lo j ok → now ≡ addInRange x y → y ≡ f j → SumGathered start f lo (j + 1) (ok && now)
     unfolding sumInRange
-    sum-gathered-turns g n e = record { is = rw (one-more lo j (h .from)) (rw (n, g .is, h .is, e, due lo j (h .from))) }
+    sum-gathered-turns g n e = record { is = rw (one-more lo j (h .from)) (rw (n, g .is, h .is, e, add-sub-of-le (h .from))) }
 
 pub sum-gathered-ends : {start : Float} {f : ℕ → Float} {lo j hi : ℕ} {ok : Bool} → SumGathered start f lo j ok → j ≤ hi → hi ≤ j → ok ≡ sumInRange start f lo (hi - lo)
 sum-gathered-ends g l m = rw (le-antisymm l m) at (g .is)

@@ -1,19 +1,19 @@
 -- Systems that agree off the diagonal and in their leaving rates have the same pivots, multipliers, quotients and tests.
-use mathlib.Core.Path.{_≡_, refl, sym, ap, ap₂, _∙_}
+use mathlib.Core.Path.{_≡_, sym, ap, ap₂, _∙_}
 use Prim.Native.Nat.{ℕ, zero, suc, _+_, _-_, _≤_, _<_}
 use native.Mathlib.Omega.{arith}
 use mathlib.Core.Bool.{_&&_, _||_}
 use lib.Dec.{eqb}
 use lib.Ieee.{Float}
 use borrow.Author.Tests.{eq-eqb, le-leb, lt-leb}
-use Rattle.definitions.specs.Numbers.{_⊕_, _⊗_, _⊘_, 0·0, addInRange, divInRange, addProductInRange, sum, sumInRange, all}
-use Rattle.definitions.specs.LeavingRates.{System, pivot, multiplier, eliminate, begun, downward, p, u, m↓, m↑, b↓, b↑, solved, quotient, rowInRange, stageInRange, sharedBefore, shared, columnBefore, columnUpward, column, inRange}
+use Rattle.definitions.specs.Numbers.{_⊕_, _⊗_, _⊘_, 0·0, divInRange, addProductInRange, all}
+use Rattle.definitions.specs.LeavingRates.{System, pivot, pivotInRange, multiplier, eliminate, begun, downward, p, u, m↓, m↑, b↓, b↑, solved, quotient, rowInRange, stageInRange, sharedBefore, shared, columnBefore, columnUpward, column, inRange}
 use Rattle.exact.proofs.Cases.{by-equal, by-order}
 use Rattle.steps.proofs.All.{all-same}
 use Rattle.steps.proofs.AddProduct.{step-same, step-test-same}
-use Rattle.steps.proofs.Tables.{stored-at, storedTable-at}
-use Rattle.steps.proofs.Sums.{sum-same, sum-in-range-same}
-use Rattle.steps.proofs.LeavingRates.{begun-at, column-start, column-before, column-step, upward-start, upward-step}
+use Rattle.steps.proofs.TableLaws.{stored-at, storedTable-at}
+use Rattle.steps.proofs.FloatSums.{sum-same, sum-in-range-same}
+use Rattle.steps.proofs.LeavingRatesSteps.{begun-at, column-start, column-before, column-step, upward-start, upward-step}
 
 -- The rows and columns from k on agree.
 pub record Same (r k : ℕ) (a b : System) : Type 0 where
@@ -35,7 +35,8 @@ module _ (r k : ℕ) (a b : System) (h : Same r k a b) (hk : k < r) where
   unfolding pivot
   pivot-same = sum-same (a .s k) (b .s k) (a .t k) (b .t k) (suc k) (r - suc k) (h .exits k (omega arith) hk) row-same
 
-  pivot-in-range-same : sumInRange (a .s k) (a .t k) (suc k) (r - suc k) ≡ sumInRange (b .s k) (b .t k) (suc k) (r - suc k)
+  pivot-in-range-same : pivotInRange r a k ≡ pivotInRange r b k
+  unfolding pivotInRange
   pivot-in-range-same = sum-in-range-same (a .s k) (b .s k) (a .t k) (b .t k) (suc k) (r - suc k) (h .exits k (omega arith) hk) row-same
 
   multiplier-same : (i : ℕ) → k < i → i < r → multiplier r a k i ≡ multiplier r b k i
@@ -176,12 +177,6 @@ downward-same r a b h k l = rw (begun-at r a k l, begun-at r b k l) (begun-same 
 module _ (r : ℕ) (a b : System) (h : Same r 0 a b) where
   pub same-quotient : (i j : ℕ) → i < r → quotient r (downward r a) i j ≡ quotient r (downward r b) i j
   same-quotient = quotient-same r (downward r a) (downward r b) (downward-same r a b h)
-
-  pub same-column : (j : ℕ) → column r (downward r a) j ≡ column r (downward r b) j
-  same-column = column-same r (downward r a) (downward r b) (downward-same r a b h)
-
-  pub same-shared : shared r (downward r a) ≡ shared r (downward r b)
-  same-shared = shared-same r (downward r a) (downward r b) (downward-same r a b h)
 
   pub same-in-range : inRange r (downward r a) ≡ inRange r (downward r b)
   same-in-range = in-range-same r (downward r a) (downward r b) (downward-same r a b h)

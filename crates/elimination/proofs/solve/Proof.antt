@@ -1,35 +1,48 @@
 -- `elimination::solve` meets its contract. Assumes nothing.
 use borrow.Author.Needs.{needs}
-use Rattle.elimination.specs.Places.{table32}
-use Rattle.elimination.proofs.EngineLaws.{identity-holds, multipliers-finite, solve-gives}
+use borrow.Author.Tests.{not-true, not-false}
+use Rattle.tables.specs.RowMajor.{table}
+use Rattle.elimination.proofs.Quotients.{out-of-range, pass-starts, upward-starts, solved-table}
 use Rattle.elimination.proofs.solve.Statement.{statement}
 use Rattle.elimination.proofs.solve.Tie as tie
 
-downward-columns-requires : tie.Need-downward-columns-requires
-downward-columns-requires c κs =
-    let one = c .before .before in
-    let first = one .before .before in
-    let s = first .before .before in
-    let done = first .shared .ensures in
-    let h = one .identity .ensures in
-    (s .pre .0, done .long, h .long, identity-holds (s .args .r) (table32 (s .args .b .now)) h, multipliers-finite (s .args .r) (s .pre .0) (s .args .t .now) (first .shared .last .1 .0) (s .args .b .now) done)
-
 returns : tie.Need-returns
 returns c =
+    let s = c .before .before .before in
+    out-of-range (s .args .r) (table (s .args .t .now)) (c .before .shared .ensures) (not-true (c .before .shared .result) (c .if1 .taken)) (s .pre .2)
+
+pass-requires : tie.Need-pass-requires
+pass-requires c κs =
+    let one = c .before .before in
+    let test = one .before .before in
+    let shared = test .before in
+    let s = shared .before .before in
+    (s .pre .0, shared .shared .ensures .long, one .identity .ensures .long, pass-starts (s .args .r) (table (s .args .t .now)) (shared .shared .ensures) (not-false (shared .shared .result) (test .if1 .left)) (table (s .args .b .now)) (one .identity .ensures))
+
+pass-requires-2 : tie.Need-pass-requires-2
+pass-requires-2 c κs =
+    let down = c .before .before in
+    let shared = down .before .before .before .before .before .before in
+    (shared .before .before .pre .0, shared .shared .ensures .long, down .pass .ensures .long, upward-starts)
+
+returns-2 : tie.Need-returns-2
+returns-2 c =
     let up = c .before .before .before in
     let down = up .before .before .before in
     let one = down .before .before .before in
-    let first = one .before .before in
-    let s = first .before .before in
-    solve-gives (s .args .r) (s .pre .0) (s .args .t .now) (first .shared .last .1 .0) (s .args .b .now) (first .shared .ensures) (one .identity .ensures) (down .downward-columns .ensures) (up .up .ensures) (c .quotients .ensures)
+    let test = one .before .before in
+    let shared = test .before in
+    let s = shared .before .before .args in
+    solved-table (s .r) (table (s .t .now)) (shared .shared .ensures) (not-false (shared .shared .result) (test .if1 .left)) (table (s .b .now)) (one .identity .ensures) (down .pass .ensures) (up .pass2 .ensures) (c .quotients .ensures)
 
 pub solve-spec : {M : Type 1} → statement M
 solve-spec =
     tie.close
     (tie.spec
     (λ c κs. search needs)
+    returns
     (λ c κs. search needs)
-    downward-columns-requires
+    pass-requires
+    pass-requires-2
     (λ c κs. search needs)
-    (λ c κs. search needs)
-    returns)
+    returns-2)

@@ -1,42 +1,58 @@
 -- `margins::solve_kept` meets its contract. Assumes nothing.
 use mathlib.Core.Path.{refl}
-use Rattle.margins.specs.Compact.{keeps}
-use Rattle.margins.proofs.CompactLaws.{listing-stages, stages-wider}
-use Rattle.margins.proofs.Solving.{kept-solved}
+use borrow.Author.Tests.{not-true, not-false}
+use Rattle.tables.specs.RowMajor.{table}
+use Rattle.compact.proofs.Listings.{listing-stages, stages-wider}
+use Rattle.margins.proofs.KeptStages.{engine-fails, kept-table}
 use Rattle.margins.proofs.solve_kept.Statement.{statement}
 use Rattle.margins.proofs.solve_kept.Tie as tie
 
 list-requires : tie.Need-list-requires
-list-requires c κs = (c .before .pre .0, c .before .pre .2 .diagonals .h-long, refl)
+list-requires c κs = let s = c .before .pre in (s .0, s .3 .kept-is .long, refl)
 
-scaled-in-range-requires : tie.Need-scaled-in-range-requires
-scaled-in-range-requires c κs = (c .before .before .before .pre .0, listing-stages (keeps (c .before .before .before .args .h .now)) (c .before .list .ensures) (c .before .before .before .pre .0), c .before .before .before .pre .1, c .before .before .before .pre .2 .diagonals .a-long, c .before .before .before .pre .2 .k-is .long)
-
-pack-requires : tie.Need-pack-requires
-pack-requires c κs = (c .before .before .before .before .before .before .pre .0, listing-stages (keeps (c .before .before .before .before .before .before .args .h .now)) (c .before .before .before .before .list .ensures) (c .before .before .before .before .before .before .pre .0), c .before .before .before .before .before .before .pre .1, c .before .before .before .before .before .before .pre .2 .diagonals .a-long, c .before .before .before .before .before .before .pre .2 .k-is .long, refl)
+system-requires : tie.Need-system-requires
+system-requires c κs =
+    let listed = c .before .before in
+    let s = listed .before .before .pre in
+    (s .0, s .1, s .2, record { ratios = s .3; listing = listed .list .ensures }, refl)
 
 solve-requires : tie.Need-solve-requires
-solve-requires c κs = (listing-stages (keeps (c .before .before .before .before .before .before .before .before .before .args .h .now)) (c .before .before .before .before .before .before .before .list .ensures) (c .before .before .before .before .before .before .before .before .before .pre .0) .room, c .before .before .pack .ensures .long, refl)
-
-back-in-range-requires : tie.Need-back-in-range-requires
-back-in-range-requires c κs = (stages-wider (c .before .before .before .before .before .before .before .before .before .before .before .before .pre .0) (listing-stages (keeps (c .before .before .before .before .before .before .before .before .before .before .before .before .args .h .now)) (c .before .before .before .before .before .before .before .before .before .before .list .ensures) (c .before .before .before .before .before .before .before .before .before .before .before .before .pre .0)), c .before .before .before .before .before .before .before .before .before .before .before .before .pre .2 .k-is .long, c .before .before .solve .ensures .b-long)
-
-unpack-requires : tie.Need-unpack-requires
-unpack-requires c κs = (stages-wider (c .before .before .before .before .before .before .before .before .before .before .before .before .before .before .before .before .pre .0) (listing-stages (keeps (c .before .before .before .before .before .before .before .before .before .before .before .before .before .before .before .before .args .h .now)) (c .before .before .before .before .before .before .before .before .before .before .before .before .before .before .list .ensures) (c .before .before .before .before .before .before .before .before .before .before .before .before .before .before .before .before .pre .0)), c .before .before .before .before .before .before .before .before .before .before .before .before .before .before .before .before .pre .2 .k-is .long, c .before .before .before .before .before .before .solve .ensures .b-long, c .before .before .before .before .before .before .before .before .before .before .before .before .before .before .before .before .pre .3)
+solve-requires c κs =
+    let system = c .before .before in
+    let listed = system .before .before .before in
+    (listing-stages (listed .list .ensures) (listed .before .before .pre .0) .room, system .system .ensures .long, refl)
 
 returns : tie.Need-returns
 returns c =
-    let s = c .before .before .before .before .before .before .before .before .before .before .before .before .before .before .before .before .before in
-    kept-solved (s .pre .2) (c .before .before .before .before .before .before .before .before .before .before .before .before .before .before .before .list .ensures) (s .pre .0) _ (c .before .before .before .before .before .before .before .before .before .before .before .before .before .scaled-in-range .ensures) (c .before .before .before .before .before .before .before .before .before .before .pack .ensures) (c .before .before .before .before .before .before .before .solve .ensures) (c .before .before .before .before .back-in-range .ensures) (c .unpack .ensures)
+    let solved = c .before in
+    let system = solved .before .before .before in
+    let listed = system .before .before .before in
+    let s = listed .before .before .pre in
+    engine-fails (s .3) (listed .list .ensures) (system .system .ensures) (solved .solve .ensures) (not-true (solved .solve .result) (c .if1 .taken)) (s .4)
+
+back-requires : tie.Need-back-requires
+back-requires c κs =
+    let solved = c .before .before .before in
+    let listed = solved .before .before .before .before .before .before in
+    let s = listed .before .before .pre in
+    (stages-wider (s .0) (listing-stages (listed .list .ensures) (s .0)), s .3 .k-is .long, solved .solve .ensures .long)
+
+unpack-requires : tie.Need-unpack-requires
+unpack-requires c κs =
+    let back = c .before .before .before in
+    let listed = back .before .before .before .before .before .before .before .before .before .before in
+    let s = listed .before .before .pre in
+    (stages-wider (s .0) (listing-stages (listed .list .ensures) (s .0)), back .back .ensures .holds .long, s .4)
+
+returns-2 : tie.Need-returns-2
+returns-2 c =
+    let back = c .before .before .before .before in
+    let test = back .before .before .before in
+    let solved = test .before in
+    let system = solved .before .before .before in
+    let listed = system .before .before .before in
+    let s = listed .before .before in
+    kept-table (s .pre .3) (listed .list .ensures) (system .system .ensures) (solved .solve .ensures) (not-false (solved .solve .result) (test .if1 .left)) (back .back .ensures) (table (s .args .x .now)) (c .unpack .ensures)
 
 pub solve-kept-spec : {M : Type 1} → statement M
-solve-kept-spec =
-    tie.close
-    (tie.spec
-    list-requires
-    scaled-in-range-requires
-    pack-requires
-    solve-requires
-    back-in-range-requires
-    unpack-requires
-    returns)
+solve-kept-spec = tie.close (tie.spec list-requires system-requires solve-requires returns back-requires unpack-requires returns-2)

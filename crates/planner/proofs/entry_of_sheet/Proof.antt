@@ -3,15 +3,15 @@ use mathlib.Core.Path.{refl}
 use native.Mathlib.Omega.{arith}
 use denote.Ref.{now}
 use Prim.Native.Nat.{_≤_}
-use Rattle.sheet.specs.Input.{Input}
-use Rattle.sheet.proofs.Input.{entry-input-passed}
+use Rattle.shape.specs.Square.{Square}
+use Rattle.shape.proofs.ShapeQuestions.{entry-input-passed}
 use Rattle.definitions.specs.Accuracy.{Binary64}
 use Rattle.planner.proofs.Services.{entry-given, entry-out-of-range}
 use Rattle.planner.proofs.entry_of_sheet.Statement.{statement}
 use Rattle.planner.proofs.entry_of_sheet.Tie as tie
 
 -- What questions 1 to 9 leave.
-stages : (s : tie.Start) → Input s.args.reading s.args.n (now s.args.sheet) × ((1 ≤ s.args.i) × (s.args.i ≤ s.args.n)) × ((1 ≤ s.args.j) × (s.args.j ≤ s.args.n))
+stages : (s : tie.Start) → Square s.args.n (now s.args.sheet) × ((1 ≤ s.args.i) × (s.args.i ≤ s.args.n)) × ((1 ≤ s.args.j) × (s.args.j ≤ s.args.n))
 stages s = entry-input-passed s.args.reading s.args.n (now s.args.sheet) s.args.i s.args.j s.pre
 
 sub-get : tie.Need-sub-get
@@ -23,7 +23,7 @@ sub-get-2 c = let p = stages (c .before .before .before .before) in omega (arith
 get-requires : tie.Need-get-requires
 get-requires c κs =
     let p = stages (c .before .before .before .before .before) in
-    (omega (arith, p .0 .square .few, p .1, p .2), omega (arith, p .0 .square .few, p .1, p .2), c .before .before .steps .ensures .long)
+    (omega (arith, p .0 .few, p .1, p .2), omega (arith, p .0 .few, p .1, p .2), c .before .before .steps .ensures .long)
 
 returns : tie.Need-returns
 unfolding Binary64
@@ -39,4 +39,4 @@ returns-2 c =
 
 pub entry-of-sheet-spec : {M : Type 1} → statement M
 entry-of-sheet-spec =
-    tie.close (tie.spec (λ c κs. (stages (c .before .before) .0 .square, refl)) sub-get sub-get-2 get-requires returns returns-2)
+    tie.close (tie.spec (λ c κs. (stages (c .before .before) .0, refl)) sub-get sub-get-2 get-requires returns returns-2)

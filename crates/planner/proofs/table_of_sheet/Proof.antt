@@ -5,24 +5,24 @@ use borrow.Author.Needs.{needs}
 use denote.Ref.{now}
 use lib.ListN.{length}
 use Prim.Native.Nat.{_*_, _≤_}
-use Rattle.sheet.specs.Input.{Input}
-use Rattle.sheet.proofs.Input.{table-input-passed}
+use Rattle.shape.specs.Square.{Square}
+use Rattle.shape.proofs.ShapeQuestions.{table-input-passed}
 use Rattle.definitions.specs.Accuracy.{Binary64}
 use Rattle.planner.proofs.Services.{table-given, table-out-of-range}
 use Rattle.planner.proofs.table_of_sheet.Statement.{statement}
 use Rattle.planner.proofs.table_of_sheet.Tie as tie
 
 -- What questions 1 to 9 leave.
-input : (s : tie.Start) → Input s.args.reading s.args.n (now s.args.sheet) × (s.args.n * s.args.n ≤ length (now s.args.answer))
+input : (s : tie.Start) → Square s.args.n (now s.args.sheet) × (s.args.n * s.args.n ≤ length (now s.args.answer))
 input s = table-input-passed s.args.reading s.args.n (now s.args.sheet) (length (now s.args.answer)) s.pre
 
 write-requires : tie.Need-write-requires
 write-requires c κs =
     let p = input (c .before .before .before .before .before .before .before) in
-    (omega (arith, p .0 .square .few), omega (arith, p .1), c .before .before .before .steps .ensures .long)
+    (omega (arith, p .0 .few), omega (arith, p .1), c .before .before .before .steps .ensures .long)
 
 allowance-of-requires : tie.Need-allowance-of-requires
-allowance-of-requires c κs = input (c .before .before .before .before .before .before .before .before .before .before) .0 .square .few
+allowance-of-requires c κs = input (c .before .before .before .before .before .before .before .before .before .before) .0 .few
 
 returns : tie.Need-returns
 unfolding Binary64
@@ -39,4 +39,4 @@ returns-2 c =
 pub table-of-sheet-spec : {M : Type 1} → statement M
 table-of-sheet-spec =
     tie.close
-    (tie.spec (λ c κs. (input (c .before .before .before) .0 .square, refl)) write-requires allowance-of-requires (λ c. search needs) returns returns-2)
+    (tie.spec (λ c κs. (input (c .before .before .before) .0, refl)) write-requires allowance-of-requires (λ c. search needs) returns returns-2)

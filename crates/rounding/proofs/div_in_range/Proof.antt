@@ -1,7 +1,7 @@
 -- `rounding::div_in_range` meets its contract. Assumes nothing.
 use borrow.Author.Needs.{needs}
 use mathlib.Core.Path.{_∙_}
-use Rattle.rounding.proofs.Steps.{quotient-test}
+use Rattle.rounding.proofs.ResultRange.{quotient-test}
 use Rattle.rounding.proofs.div_in_range.Statement.{statement}
 use Rattle.rounding.proofs.div_in_range.Tie as tie
 

@@ -1,7 +1,7 @@
 -- `rounding::is_finite` meets its contract. Assumes nothing.
 use mathlib.Core.Path.{_∙_}
 use Rattle.rounding.proofs.Finite.{tests-finite}
-use Rattle.rounding.proofs.Steps.{is-zero-is}
+use Rattle.rounding.proofs.ResultRange.{is-zero-is}
 use lib.Ieee.{binary64, sub}
 use Rattle.rounding.proofs.is_finite.Statement.{statement}
 use Rattle.rounding.proofs.is_finite.Tie as tie

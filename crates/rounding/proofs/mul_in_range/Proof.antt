@@ -1,7 +1,7 @@
 -- `rounding::mul_in_range` meets its contract. Assumes nothing.
 use borrow.Author.Needs.{needs}
 use mathlib.Core.Path.{_∙_}
-use Rattle.rounding.proofs.Steps.{product-test}
+use Rattle.rounding.proofs.ResultRange.{product-test}
 use Rattle.rounding.proofs.mul_in_range.Statement.{statement}
 use Rattle.rounding.proofs.mul_in_range.Tie as tie
 

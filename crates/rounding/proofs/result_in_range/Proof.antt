@@ -1,6 +1,6 @@
 -- `rounding::result_in_range` meets its contract: the three tests of the definition, with the program's literals. Assumes nothing.
 use borrow.Author.Needs.{needs}
-use Rattle.rounding.proofs.Steps.{by-tests}
+use Rattle.rounding.proofs.ResultRange.{by-tests}
 use Rattle.rounding.proofs.result_in_range.Statement.{statement}
 use Rattle.rounding.proofs.result_in_range.Tie as tie
 

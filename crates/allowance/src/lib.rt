@@ -1,0 +1,15 @@
+// The allowance E of a table (document 01, "The sheet and its two readings").
+ghost use mathlib.Core.Path.{_≡_};
+ghost use Prim.Native.Nat.{_≤_};
+ghost use Rattle.definitions.specs.Sheet.{allowance};
+
+// 4n³ for reading 1, 12n³ for reading 2.
+pub fn allowance_of(reading: usize, n: usize) -> usize
+    requires { ⌜ n ≤ 32 ⌝ }
+    ensures { λ r. ⌜ r ≡ allowance reading n ⌝ }
+{
+    if reading == 1 {
+        return 4 * (n * n * n);
+    }
+    12 * (n * n * n)
+}

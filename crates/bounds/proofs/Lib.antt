@@ -1,0 +1,3 @@
+pub mod Bounds
+pub mod Fours
+pub mod QuickTest

@@ -1,0 +1,3 @@
+mod IdentityRows
+mod Turns
+mod Passing

@@ -1,0 +1,17 @@
+-- `columns::first_done` meets its contract. Assumes nothing.
+use native.Mathlib.Omega.{arith}
+use borrow.Author.Needs.{needs}
+use Rattle.columns.specs.Columns.{firstDone}
+use Rattle.columns.proofs.first_done.Statement.{statement}
+use Rattle.columns.proofs.first_done.Tie as tie
+
+returns : tie.Need-returns
+unfolding firstDone
+returns c = rw (c .if1 .taken)
+
+returns-2 : tie.Need-returns-2
+unfolding firstDone
+returns-2 c = rw (c .if1 .left)
+
+pub first-done-spec : {M : Type 1} → statement M
+first-done-spec = tie.close (tie.spec (λ c. search needs) returns returns-2)

@@ -1,0 +1,144 @@
+// The steps on b, for all columns at once. The table t holds what the steps on sizes and leaving rates
+// leave: the pivots on the diagonal, and at place (i, k) the multiplier of row i at stage k.
+//
+// Document 01 takes the stages one after another; here the rows take turns, and each number gets the same
+// steps in the same order. Downward the rows rise and row k has nothing right of column k, upward they
+// fall. Places of b outside r × r are left open: blocks of eight columns run over them.
+use tables::row;
+ghost use mathlib.Core.Path.{_≡_};
+ghost use Prim.Native.Nat.{ℕ, _≤_, _<_};
+ghost use Rattle.definitions.specs.Numbers.{all};
+ghost use Rattle.tables.specs.RowMajor.{IsTable, table, Holds, Gives};
+ghost use Rattle.bounds.specs.Bounds.{Covering};
+ghost use Rattle.ranges.specs.Quick.{productsAt};
+ghost use Rattle.passes.specs.Told.{Told, FiniteRow};
+ghost use Rattle.passes.specs.RowPass.{turn, reach, staged, stagedInRange, identityRows, dividedRows, quotientsInRange};
+ghost use Rattle.columns.specs.Columns.{skipped, firstDone, Skips, RowBecomes, PassStarts, PassDone};
+
+// The identity of r × r.
+pub fn identity(r: usize, b: &mut [f64; 1024])
+    requires { ⌜ (r ≤ 32) × IsTable (now b) ⌝ }
+    ensures { λ _. ⌜ Holds (now (b .exit)) (identityRows r r (table (now (b .entry)))) ⌝ }
+{
+    for i in 0..r {
+        row::clear(i, r, b);
+        row::put(i, i, 1.0, b);
+    }
+}
+
+// The row of turn q.
+fn turn(r: usize, falling: bool, q: usize) -> usize
+    requires { ⌜ (q < r) × (r ≤ 32) ⌝ }
+    ensures { λ i. ⌜ i ≡ turn r falling q ⌝ }
+{
+    if falling {
+        return r - 1 - q;
+    }
+    q
+}
+
+// The columns in which the row of turn q is added.
+fn reach(r: usize, falling: bool, q: usize) -> usize
+    requires { ⌜ (q < r) × (r ≤ 32) ⌝ }
+    ensures { λ c. ⌜ c ≡ reach r falling q ⌝ }
+{
+    if falling {
+        return r;
+    }
+    q + 1
+}
+
+// The first turn that changes anything in the columns from j on.
+fn skipped(falling: bool, j: usize) -> usize
+    ensures { λ q. ⌜ q ≡ skipped falling j ⌝ }
+{
+    if falling {
+        return 0;
+    }
+    j
+}
+
+// The first of the s rows that are done before turn s.
+fn first_done(r: usize, falling: bool, s: usize) -> usize
+    requires { ⌜ (s ≤ r) × (r ≤ 32) ⌝ }
+    ensures { λ i. ⌜ i ≡ firstDone r falling s ⌝ }
+{
+    if falling {
+        return r - s;
+    }
+    0
+}
+
+// The products of turn s, one by one.
+fn products_told(r: usize, falling: bool, s: usize, t: &[f64; 1024], b: &[f64; 1024]) -> bool
+    requires { ⌜ (s < r) × (r ≤ 32) × IsTable (now t) × IsTable (now b) ⌝ }
+    ensures { λ ok. ⌜ ok ≡ all (λ q. productsAt (reach r falling q) (table (now (t .entry)) (turn r falling s)) (table (now (b .entry))) (turn r falling q)) 0 s ⌝ }
+{
+    let i = turn(r, falling, s);
+    let mut ok = true;
+    for q in 0..s {
+        let k = turn(r, falling, q);
+        let m = row::get(i, k, t);
+        let products = ranges::products_in_range(k, m, 0, reach(r, falling, q), b);
+        ok = ok & products;
+    }
+    ok
+}
+
+// Turn s: lo bounds the rows that are added.
+fn row_told(r: usize, falling: bool, s: usize, lo: f64, t: &[f64; 1024], b: &[f64; 1024]) -> bool
+    requires { ⌜ (s < r) × (r ≤ 32) × IsTable (now t) × IsTable (now b) × ((q : ℕ) → q < s → Covering lo (table (now b) (turn r falling q)) 0 (reach r falling q)) ⌝ }
+    ensures { λ ok. let κ = turn r falling in let g = table (now (t .entry)) in let f = table (now (b .entry)) in ⌜ Told ok (stagedInRange κ (reach r falling) g f (κ s) s) (FiniteRow r (staged κ g f (κ s) s)) ⌝ }
+{
+    let from = first_done(r, falling, s);
+    if ranges::row_quick(turn(r, falling, s), from, from + s, lo, t) {
+        return true;
+    }
+    products_told(r, falling, s, t, b)
+}
+
+// The rows that are done are added to the row of turn s, block by block.
+fn add_done(r: usize, falling: bool, s: usize, t: &[f64; 1024], b: &mut [f64; 1024])
+    requires { ⌜ (s < r) × (r ≤ 32) × IsTable (now t) × IsTable (now b) × Skips r falling s (table (now t)) (table (now b)) ⌝ }
+    ensures { λ _. let κ = turn r falling in ⌜ RowBecomes (κ s) r (staged κ (table (now (t .entry))) (table (now (b .entry))) (κ s) s) (now (b .entry)) (now (b .exit)) ⌝ }
+{
+    let i = turn(r, falling, s);
+    let width = reach(r, falling, s);
+    for block in 0..(width + 7) / 8 {
+        let j = 8 * block;
+        let from = skipped(falling, j);
+        let first = turn(r, falling, from);
+        blocks::add_rows(i, j, first, s - from, falling, t, b);
+    }
+}
+
+// The downward or the upward steps, and whether they are in range: lo bounds the rows that are done. The
+// answer is left open where a result is not finite.
+pub fn pass(r: usize, falling: bool, t: &[f64; 1024], b: &mut [f64; 1024]) -> bool
+    requires { ⌜ (r ≤ 32) × IsTable (now t) × IsTable (now b) × PassStarts r falling (table (now t)) (table (now b)) ⌝ }
+    ensures { λ ok. ⌜ PassDone r falling (table (now (t .entry))) (table (now (b .entry))) ok (now (b .exit)) ⌝ }
+{
+    let mut ok = true;
+    let mut lo = 1.0;
+    for s in 1..r {
+        lo = bounds::least(lo, turn(r, falling, s - 1), 0, reach(r, falling, s - 1), b);
+        let told = row_told(r, falling, s, lo, t, b);
+        ok = ok & told;
+        add_done(r, falling, s, t, b);
+    }
+    ok
+}
+
+// The last division, and whether its steps are in range.
+pub fn quotients(r: usize, t: &[f64; 1024], b: &mut [f64; 1024]) -> bool
+    requires { ⌜ (r ≤ 32) × IsTable (now t) × IsTable (now b) ⌝ }
+    ensures { λ ok. let g = table (now (t .entry)) in let f = table (now (b .entry)) in ⌜ Gives ok (quotientsInRange r g f) (now (b .exit)) (dividedRows r r g f) ⌝ }
+{
+    let mut ok = true;
+    for i in 0..r {
+        let p = row::get(i, i, t);
+        let row = row::divide(i, p, r, b);
+        ok = ok & row;
+    }
+    ok
+}

@@ -1,0 +1,102 @@
+-- The laws of a list of stages: as it grows, and what stands at its places.
+use mathlib.Core.Path.{_≡_, refl, sym, ap, ap₂, _∙_}
+use Prim.Native.Nat.{ℕ, zero, suc, _+_, _≤_, _<_}
+use native.Mathlib.Nat.{le-antisymm}
+use native.Mathlib.Numerals.{add-one}
+use native.Mathlib.Omega.{arith}
+use mathlib.Core.Bool.{Bool, true, false, not, _||_, cond}
+use mathlib.Core.List.{List, [], _∷_, _++_}
+use lib.ListN.{length, getD, set, length-set}
+use lib.Seq.{take-suc-set, getD-take}
+use Rattle.exact.proofs.Bools.{same-truth, if-in, if-out}
+use Rattle.definitions.specs.Numbers.{all}
+use Rattle.definitions.specs.Margins.{stagesWith, rank}
+use Rattle.steps.proofs.All.{each-below, every-below}
+use Rattle.steps.proofs.CompactOrder.{list-take, list-leave, rank-none, rank-take, rank-leave, rank-within, rank-below, stage-of-rank, Listed, listed}
+use Rattle.compact.specs.Listing.{stageAt, Listing, Stages}
+
+-- ---- the list grows
+module _ (test : ℕ → Bool) where
+  pub listing-none : {stages : List ℕ} → length stages ≡ 32 → Listing test 0 0 stages
+  unfolding stagesWith
+  listing-none e = record { long = e; counted = sym (rank-none test); front = refl }
+
+  module _ {i r : ℕ} {stages : List ℕ} (h : Listing test i r stages) where
+    pub listing-room : i < 32 → r < 32
+    listing-room l = let w = rank-within test i in omega (arith, h .counted)
+
+    pub listing-take : i < 32 → test i ≡ true → Listing test (suc i) (r + 1) (set stages r i)
+    listing-take l e =
+        record {
+          long = length-set stages r i ∙ h .long;
+          counted = add-one r ∙ ap suc (h .counted) ∙ sym (rank-take test i e);
+          front = rw (add-one r) (take-suc-set stages r i (let w = listing-room l in omega (arith, h .long)) ∙ ap (λ l. l ++ (i ∷ [])) (h .front) ∙ sym (list-take test i e));
+        }
+
+    pub listing-leave : test i ≡ false → Listing test (suc i) r stages
+    listing-leave e =
+        record { long = h .long; counted = h .counted ∙ sym (rank-leave test i e); front = h .front ∙ sym (list-leave test i e) }
+
+    pub listing-all : {n : ℕ} → i ≤ n → n ≤ i → Listing test n r stages
+    listing-all l m = rw (le-antisymm l m) at h
+
+-- ---- what stands at its places
+module _ {test : ℕ → Bool} {n r : ℕ} {stages : List ℕ} (h : Listing test n r stages) where
+  pub listing-at : (q : ℕ) → q < r → stageAt stages q ≡ getD (stagesWith test n) q 0
+  listing-at q l = sym (getD-take r stages q 0 l) ∙ ap (λ l. getD l q 0) (h .front)
+
+  pub listing-stage : (q : ℕ) → q < r → Listed test n q (stageAt stages q)
+  listing-stage q l = rw (listing-at q l) (listed test n q (rw (h .counted) at l))
+
+  pub listing-stages : n ≤ 32 → Stages n r stages
+  listing-stages l =
+      record {
+        long = h .long;
+        room = let w = rank-within test n in omega (arith, h .counted);
+        below = λ q g. listing-stage q g .below;
+        once = λ p q u v e. sym (listing-stage p u .place) ∙ ap (rank test) e ∙ listing-stage q v .place;
+      }
+
+  -- The place of a stage that passes.
+  pub record Place (i : ℕ) : Type 0 where
+    pub place : ℕ
+    pub within : place < r
+    pub stands : stageAt stages place ≡ i
+
+  pub place-of : (i : ℕ) → i < n → test i ≡ true → Place i
+  place-of i l t =
+      let w : rank test i < r = rw (h .counted) (rank-below test n i l t) in
+      record { place = rank test i; within = w; stands = listing-at (rank test i) w ∙ stage-of-rank test n i l t }
+
+  -- A test at every place of the list is the test at every stage that passes.
+  pub all-listed : (p : ℕ → Bool) → all (λ q. p (stageAt stages q)) 0 r ≡ all (λ i. not (test i) || p i) 0 n
+  all-listed p =
+      same-truth (all at-place 0 r) (all at-stage 0 n)
+      (λ t. every-below n at-stage (λ i l. if-in (test i) (p i) (λ e. let w = place-of i l e in rw (w .stands) at (each-below r at-place t (w .place) (w .within)))))
+      (λ t. every-below r at-place (λ q l. let w = listing-stage q l in if-out (test (stageAt stages q)) (p (stageAt stages q)) (each-below n at-stage t (stageAt stages q) (w .below)) (w .passes)))
+    where
+      at-place : ℕ → Bool
+      at-place q = p (stageAt stages q)
+
+      at-stage : ℕ → Bool
+      at-stage i = not (test i) || p i
+
+-- A list by another test that is the same below n.
+stages-same : (test other : ℕ → Bool) (n : ℕ) → ((i : ℕ) → i < n → test i ≡ other i) → stagesWith test n ≡ stagesWith other n
+unfolding stagesWith
+stages-same test other zero e = refl
+stages-same test other (suc n) e =
+    ap₂ (λ (l : List ℕ) b. l ++ cond b (n ∷ []) []) (stages-same test other n (λ i m. e i (omega arith))) (e n (omega arith))
+
+pub listing-same : {test other : ℕ → Bool} {n r : ℕ} {stages : List ℕ} → ((i : ℕ) → i < n → test i ≡ other i) → Listing test n r stages → Listing other n r stages
+unfolding rank
+listing-same {test} {other} {n} e h =
+    let s = stages-same test other n e in
+    record { long = h .long; counted = h .counted ∙ ap length s; front = h .front ∙ s }
+
+-- ---- a stage that was read from the list
+pub stages-wider : {m n r : ℕ} {stages : List ℕ} → m ≤ n → Stages m r stages → Stages n r stages
+stages-wider l s = record { long = s .long; room = s .room; below = λ q g. let b = s .below q g in omega arith; once = s .once }
+
+pub stage-below : {n r q s : ℕ} {stages : List ℕ} → Stages n r stages → q < r → s ≡ stageAt stages q → s < n
+stage-below {q = q} h l e = rw e (h .below q l)

@@ -1,0 +1,28 @@
+-- A rising list of stages at the front of 32 places (document 01, "Compact order" in the steps for margins).
+use mathlib.Core.Path.{_≡_}
+use Prim.Native.Nat.{ℕ, _≤_, _<_}
+use mathlib.Core.Bool.{Bool, false}
+use mathlib.Core.List.{List}
+use lib.ListN.{length, getD, take}
+use Rattle.definitions.specs.Margins.{stagesWith, rank}
+
+-- The stages that a mask marks.
+abbrev pub marked : List Bool → ℕ → Bool
+marked mask i = getD mask i false
+
+-- The stage at place q of a list of stages.
+abbrev pub stageAt : List ℕ → ℕ → ℕ
+stageAt stages q = getD stages q 0
+
+-- The stages below n that pass a test, and their count.
+pub record Listing (test : ℕ → Bool) (n count : ℕ) (stages : List ℕ) : Type 0 where
+  pub long : length stages ≡ 32
+  pub counted : count ≡ rank test n
+  pub front : take count stages ≡ stagesWith test n
+
+-- What packing asks: the first r places hold different stages below n.
+pub record Stages (n r : ℕ) (stages : List ℕ) : Type 0 where
+  pub long : length stages ≡ 32
+  pub room : r ≤ 32
+  pub below : (q : ℕ) → q < r → stageAt stages q < n
+  pub once : (p q : ℕ) → p < r → q < r → stageAt stages p ≡ stageAt stages q → p ≡ q

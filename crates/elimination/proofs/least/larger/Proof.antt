@@ -1,6 +1,0 @@
--- `elimination::least::larger` meets its contract. Assumes nothing.
-use Rattle.elimination.proofs.least.larger.Statement.{statement}
-use Rattle.elimination.proofs.least.larger.Tie as tie
-
-pub larger-spec : {M : Type 1} → statement M
-larger-spec = tie.close (tie.spec (λ c. rw (c .if1 .taken)) (λ c. rw (c .if1 .left)))

@@ -1,6 +1,0 @@
--- `elimination::least::smaller` meets its contract. Assumes nothing.
-use Rattle.elimination.proofs.least.smaller.Statement.{statement}
-use Rattle.elimination.proofs.least.smaller.Tie as tie
-
-pub smaller-spec : {M : Type 1} → statement M
-smaller-spec = tie.close (tie.spec (λ c. rw (c .if1 .taken)) (λ c. rw (c .if1 .left)))

@@ -1,0 +1,4 @@
+mod Conditions
+mod ColumnSteps
+mod JoinedPlaces
+pub mod Joining

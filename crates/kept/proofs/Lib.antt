@@ -1,0 +1,2 @@
+mod ScaledRows
+mod KeptTests

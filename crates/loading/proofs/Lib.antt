@@ -1,0 +1,2 @@
+mod LoadedRows
+pub mod LoadedSheet

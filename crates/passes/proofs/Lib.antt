@@ -1,0 +1,11 @@
+-- What the tests tell; the steps that serve every column; the steps on b, row by row.
+pub mod Told
+pub mod FinitePivots
+pub mod StagePlaces
+pub mod SharedSteps
+pub mod FiniteStages
+pub mod RowPass
+pub mod ColumnPasses
+-- Laws for other engines on the same steps: one column alone, and sizes that are zero.
+pub mod OneColumn
+pub mod ZeroMultiplier

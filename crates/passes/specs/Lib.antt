@@ -1,0 +1,5 @@
+pub mod Told
+pub mod Multipliers
+pub mod Stages
+pub mod StageTests
+pub mod RowPass

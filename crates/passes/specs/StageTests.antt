@@ -1,0 +1,35 @@
+-- What the tests of a stage tell: they look at the pivot, and at the products of its rows.
+use Prim.Native.Nat.{ℕ, _<_}
+use mathlib.Core.Bool.{Bool, _&&_, _||_}
+use mathlib.Core.List.{List}
+use mathlib.Core.Path.{_≡_}
+use lib.Dec.{T, leb}
+use lib.Ieee.{Float}
+use Rattle.definitions.specs.Numbers.{_⊕_, _⊗_, _⊘_, finite}
+use Rattle.definitions.specs.LeavingRates.{pivot}
+use Rattle.tables.specs.RowMajor.{Holds}
+use Rattle.passes.specs.Told.{Told}
+use Rattle.passes.specs.Multipliers.{systemIn}
+use Rattle.passes.specs.Stages.{rowTests, stageDone}
+
+-- The results of row i at stage k that are finite: the leaving rate, and the sizes off the diagonal; and those of all rows.
+pub record RowFinite (r k i : ℕ) (p : Float) (own other : ℕ → Float) : Type 0 where
+  pub exit : T (finite (own i ⊕ (own k ⊘ p) ⊗ other k))
+  pub sizes : (j : ℕ) → k < j → j < r → (i ≡ j → ⊥) → T (finite (own j ⊕ (own k ⊘ p) ⊗ other j))
+
+abbrev pub StageFinite : ℕ → ℕ → Float → (ℕ → ℕ → Float) → Type 0
+StageFinite r k p f = (i : ℕ) → k < i → i < r → RowFinite r k i p (f i) (f k)
+
+-- A pivot's test: finite, where any stage follows or went before.
+abbrev pub pivotTested : ℕ → Float → Bool
+pivotTested r p = leb r 1 || finite p
+
+-- A stage's test as the code makes it.
+unfoldable pub stageTested : ℕ → ℕ → (ℕ → ℕ → Float) → Bool
+stageTested r k f = let p = pivot r (systemIn f) k in pivotTested r p && rowTests r k p f
+
+-- A function that does stage k, and tells so of its test. The pivot's part is made as it stands, so ok alone gives it.
+pub record StageFinds (r k : ℕ) (f : ℕ → ℕ → Float) (ok : Bool) (xs : List Float) : Type 0 where
+  pub told : Told ok (stageTested r k f) (StageFinite r k (pivot r (systemIn f) k) f)
+  pub tested : T ok → T (pivotTested r (pivot r (systemIn f) k))
+  pub holds : Holds xs (stageDone r k f)

@@ -1,0 +1,33 @@
+-- `places::place_passes` meets its contract. Assumes nothing.
+use borrow.Author.Tests.{eq-eqb, ne-eqb}
+use borrow.Author.Needs.{needs}
+use Rattle.places.specs.PlaceQuestions.{passes}
+use Rattle.places.proofs.place_passes.Statement.{statement}
+use Rattle.places.proofs.place_passes.Tie as tie
+
+returns : tie.Need-returns
+unfolding passes
+returns c = rw (eq-eqb (c .before .before .args .question) 6 (c .before .if1 .taken)) (c .is-finite .ensures)
+
+returns-2 : tie.Need-returns-2
+unfolding passes
+returns-2 c =
+    let question = c .before .before .before .args .question in
+    rw (ne-eqb question 6 (c .before .before .if1 .left), eq-eqb question 7 (c .before .if2 .taken)) (c .right-sign .ensures)
+
+returns-3 : tie.Need-returns-3
+unfolding passes
+returns-3 c =
+    let question = c .before .before .before .args .question in
+    rw (ne-eqb question 6 (c .before .before .if1 .left), ne-eqb question 7 (c .before .if2 .left)) (c .large-enough .ensures)
+
+pub place-passes-spec : {M : Type 1} → statement M
+place-passes-spec =
+    tie.close
+    (tie.spec
+    (λ c κs. search needs)
+    returns
+    (λ c κs. search needs)
+    returns-2
+    (λ c κs. search needs)
+    returns-3)

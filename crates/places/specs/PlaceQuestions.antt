@@ -1,0 +1,25 @@
+-- What questions 6, 7 and 8 ask of a place, so that one search serves all three (document 01, "The questions, in order").
+use mathlib.Core.Bool.{Bool, cond}
+use mathlib.Core.List.{List}
+use Prim.Native.Nat.{ℕ}
+use lib.Dec.{eqb}
+use lib.Ieee.{Float, lt, le}
+use Rattle.definitions.specs.Numbers.{0·0, finite}
+use Rattle.definitions.specs.Sheet.{place}
+use Rattle.definitions.specs.Questions.{Asked, _then_, askRows, question6, question7, question8, largeEnough}
+
+-- 7, of the number x at row i and column j.
+unfoldable pub signAt : ℕ → ℕ → ℕ → Float → Bool
+signAt reading i j x = cond (eqb i j) (cond (eqb reading 1) (le 0·0 x) (lt 0·0 x)) (le x 0·0)
+
+-- 6, 7 or 8, of that number.
+unfoldable pub passes : ℕ → ℕ → ℕ → ℕ → Float → Bool
+passes question reading i j x = cond (eqb question 6) (finite x) (cond (eqb question 7) (signAt reading i j x) (largeEnough x))
+
+-- Of every place, row by row.
+unfoldable pub askPlaces : ℕ → ℕ → ℕ → List Float → Asked
+askPlaces question reading n sheet = askRows (λ i j. passes question reading i j (place n sheet i j)) question n 0 n
+
+-- All three, each of the whole sheet before the next.
+unfoldable pub placeQuestions : ℕ → ℕ → List Float → Asked
+placeQuestions reading n sheet = question6 n sheet then question7 reading n sheet then question8 n sheet

@@ -1,0 +1,71 @@
+// The places of a sheet, and questions 6, 7 and 8 of document 01 with the first bad place.
+ghost use Prim.Native.Nat.{_<_};
+ghost use mathlib.Core.Path.{_≡_};
+ghost use Rattle.definitions.specs.Sheet.{place};
+ghost use Rattle.definitions.specs.Questions.{largeEnough};
+ghost use Rattle.shape.specs.Outcome.{asked};
+ghost use Rattle.shape.specs.Square.{Square};
+ghost use Rattle.places.specs.PlaceQuestions.{signAt, passes, askPlaces};
+use shape::Asked;
+
+// The number at place (i, j) of a sheet.
+pub fn number_at(n: usize, i: usize, j: usize, sheet: &[f64]) -> f64
+    requires { ⌜ Square n (now sheet) × (i < n) × (j < n) ⌝ }
+    ensures { λ r. ⌜ r ≡ place n (now (sheet .entry)) i j ⌝ }
+{
+    sheet[i * n + j]
+}
+
+// Question 7 of the number x at row i and column j.
+fn right_sign(reading: usize, i: usize, j: usize, x: f64) -> bool
+    ensures { λ r. ⌜ r ≡ signAt reading i j x ⌝ }
+{
+    if i != j {
+        return x <= 0.0;
+    }
+    if reading == 1 {
+        return 0.0 <= x;
+    }
+    0.0 < x
+}
+
+// Question 8: 2.2250738585072014e-308 is 2^-1022.
+fn large_enough(x: f64) -> bool
+    ensures { λ r. ⌜ r ≡ largeEnough x ⌝ }
+{
+    (x == 0.0) | (2.2250738585072014e-308 <= x) | (x <= -2.2250738585072014e-308)
+}
+
+// Question 6, 7 or 8 of the number x at row i and column j.
+fn place_passes(question: usize, reading: usize, i: usize, j: usize, x: f64) -> bool
+    ensures { λ r. ⌜ r ≡ passes question reading i j x ⌝ }
+{
+    if question == 6 {
+        return rounding::is_finite(x);
+    }
+    if question == 7 {
+        return right_sign(reading, i, j, x);
+    }
+    large_enough(x)
+}
+
+// Question 6, 7 or 8 of every place, row by row: the search stops at the first bad place.
+pub fn ask_places(question: usize, reading: usize, n: usize, sheet: &[f64]) -> Asked
+    requires { ⌜ Square n (now sheet) ⌝ }
+    ensures { λ r. ⌜ asked r ≡ askPlaces question reading n (now (sheet .entry)) ⌝ }
+{
+    let mut answer = Asked::Pass;
+    'rows: for i in 0..n {
+        for j in 0..n {
+            if !place_passes(question, reading, i, j, number_at(n, i, j, sheet)) {
+                answer = Asked::Refuse {
+                    number: question,
+                    row: i + 1,
+                    column: j + 1,
+                };
+                break 'rows;
+            }
+        }
+    }
+    answer
+}

@@ -1,0 +1,2 @@
+pub mod QuickNumbers
+pub mod QuickSheets

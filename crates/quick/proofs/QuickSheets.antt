@@ -1,0 +1,76 @@
+-- The quick pass of a sheet: the diagonal, and the n numbers before each diagonal place but the first.
+use mathlib.Core.Path.{_≡_, subst, ap, _∙_}
+use mathlib.Core.Bool.{Bool, _&&_}
+use mathlib.Core.List.{List}
+use Prim.Native.Nat.{ℕ, suc, _+_, _*_, _-_, _≤_, _<_}
+use native.Mathlib.Nat.{suc-mul, mul-le-mul-right, le-of-lt}
+use native.Mathlib.Omega.{arith}
+use lib.Dec.{T}
+use lib.ListN.{length, getD, drop}
+use lib.Seq.{getD-take, getD-drop}
+use lib.Ieee.{Float, nan}
+use lib.Ieee.Fits.{and-l, and-r}
+use borrow.Author.Count.{below-more}
+use borrow.Rule.Slice.PartMut.{midOf, mid-len}
+use Rattle.exact.proofs.Cases.{by-equal, by-order}
+use Rattle.definitions.specs.Sheet.{place}
+use Rattle.definitions.specs.Questions.{pass}
+use Rattle.steps.proofs.QuestionLaws.{rows-pass}
+use Rattle.shape.specs.Square.{Square}
+use Rattle.shape.proofs.Square.{place-inside}
+use Rattle.places.specs.PlaceQuestions.{passes, askPlaces, placeQuestions}
+use Rattle.places.proofs.PlaceQuestions.{in-order}
+use Rattle.quick.specs.QuickPass.{PassesOff, DiagonalPasses, StretchPasses, SizesPass}
+
+-- A loop's flag, which says of every number before i that it has p, and the test of i.
+pub flag-more : (p : ℕ → Type 0) (i : ℕ) (a b : Bool) → (T a → (k : ℕ) → k < i → p k) → (T b → p i) → T (a && b) → (k : ℕ) → k < i + 1 → p k
+flag-more p i a b f g t = below-more p i (f (and-l a b t)) (g (and-r a b t))
+
+-- ---- the stretches
+pub record PassesBefore (n : ℕ) (sheet : List Float) (i : ℕ) : Type 0 where
+  pub before : (k : ℕ) → i * n + i ≤ k + n → k < i * n + i → PassesOff (getD sheet k nan)
+
+pub none-before : {n : ℕ} {sheet : List Float} → PassesBefore n sheet 0
+none-before = record { before = λ k low high. absurd (omega arith) }
+
+-- Diagonal place i lies in the sheet, and so do n numbers before it.
+pub stretch-inside : {n i : ℕ} {sheet : List Float} → Square n sheet → 1 ≤ i → i < n
+    → (n ≤ i * n + i) × (i * n + i ≤ length sheet) × (length sheet ≤ 1024)
+stretch-inside {n} {i} q some l =
+    let k = mul-le-mul-right n some in
+    let p = place-inside q l l in
+    (omega arith, le-of-lt (p .0), p .1)
+
+pub stretch-passes : (n i : ℕ) (sheet : List Float) → n ≤ i * n + i → i * n + i ≤ length sheet
+    → StretchPasses (midOf (i * n + i - n) (i * n + i - (i * n + i - n)) sheet) → PassesBefore n sheet i
+stretch-passes n i sheet room fits h =
+    let from = i * n + i - n in
+    let size = i * n + i - from in
+    let long = mid-len from (i * n + i) sheet fits in
+    record {
+      before = λ k low high.
+          let at : from + (k - from) ≡ k = omega arith in
+          let same : getD (midOf from size sheet) (k - from) nan ≡ getD sheet k nan = getD-take size (drop from sheet) (k - from) nan (omega arith) ∙ getD-drop from sheet (k - from) nan ∙ ap (λ m. getD sheet m nan) at in
+          subst PassesOff same (h (k - from) (rw long (omega arith)));
+    }
+
+pub sizes-pass : {n : ℕ} {sheet : List Float} → ((k : ℕ) → k < n → PassesBefore n sheet k) → SizesPass n sheet
+sizes-pass {n} {sheet} h i j hi hj d =
+    by-order (suc i) j
+    (λ l. let e = suc-mul i n in h (suc i) (omega arith) .before (i * n + j) (omega arith) (omega arith))
+    (λ g. h i hi .before (i * n + j) (omega arith) (omega arith))
+
+-- ---- all places
+module _ (reading n : ℕ) (sheet : List Float) (on : DiagonalPasses reading n sheet) (off : SizesPass n sheet) where
+  place-passes : (question i j : ℕ) → i < n → j < n → T (passes question reading i j (place n sheet i j))
+  place-passes question i j hi hj =
+      by-equal i j
+      (λ e. subst (λ k. T (passes question reading i k (place n sheet i k))) e (on i hi .at question i))
+      (λ d. off i j hi hj d .at question reading i j d)
+
+  places-pass : (question : ℕ) → askPlaces question reading n sheet ≡ pass
+  unfolding askPlaces
+  places-pass question = rows-pass (λ i j. passes question reading i j (place n sheet i j)) question n (place-passes question)
+
+  pub sheet-passes : placeQuestions reading n sheet ≡ pass
+  sheet-passes = rw (← (in-order reading n sheet)) (rw (places-pass 6, places-pass 7, places-pass 8))

@@ -1,0 +1,70 @@
+// A quick pass of questions 6, 7 and 8 of document 01. It can only say yes: a no leaves open whether the
+// questions pass. There is no branch in its tests, so that a loop over many numbers is fast.
+ghost use mathlib.Core.Path.{_≡_};
+ghost use lib.Dec.{T};
+ghost use Rattle.definitions.specs.Questions.{pass};
+ghost use Rattle.shape.specs.Square.{Square};
+ghost use Rattle.places.specs.PlaceQuestions.{placeQuestions};
+ghost use Rattle.quick.specs.QuickPass.{PassesOn, PassesOff, DiagonalPasses, StretchPasses, SizesPass};
+use places::number_at;
+
+// Questions 6, 7 and 8 of a number x on the diagonal: zero (reading 1), or from 2^-1022 to the largest number.
+fn parameter_passes(reading: usize, x: f64) -> bool
+    ensures { λ r. ⌜ (T r → PassesOn reading x) ⌝ }
+{
+    ((x == 0.0) & (reading == 1)) | ((2.2250738585072014e-308 <= x) & (x <= 1.7976931348623157e308))
+}
+
+fn diagonal_passes(reading: usize, n: usize, sheet: &[f64]) -> bool
+    requires { ⌜ Square n (now sheet) ⌝ }
+    ensures { λ r. ⌜ (T r → DiagonalPasses reading n (now (sheet .entry))) ⌝ }
+{
+    let mut good = true;
+    for i in 0..n {
+        good = good & parameter_passes(reading, number_at(n, i, i, sheet));
+    }
+    good
+}
+
+// The same questions of a number x off the diagonal: zero, or from minus the largest number to -2^-1022.
+fn size_passes(x: f64) -> bool
+    ensures { λ r. ⌜ (T r → PassesOff x) ⌝ }
+{
+    (x == 0.0) | ((-1.7976931348623157e308 <= x) & (x <= -2.2250738585072014e-308))
+}
+
+fn stretch_passes(part: &[f64]) -> bool
+    ensures { λ r. ⌜ (T r → StretchPasses (now (part .entry))) ⌝ }
+{
+    let mut good = true;
+    let mut k = 0;
+    while k < part.len() {
+        good = good & size_passes(part[k]);
+        k += 1;
+    }
+    good
+}
+
+// All numbers off the diagonal: the n numbers before each of its places but the first.
+fn sizes_pass(n: usize, sheet: &[f64]) -> bool
+    requires { ⌜ Square n (now sheet) ⌝ }
+    ensures { λ r. ⌜ (T r → SizesPass n (now (sheet .entry))) ⌝ }
+{
+    for i in 1..n {
+        let to = i * n + i;
+        let from = to - n;
+        if !stretch_passes(&sheet[from..to]) {
+            return false;
+        }
+    }
+    true
+}
+
+// Whether questions 6, 7 and 8 pass, as far as the quick pass can tell. What a no means is left open; after a
+// yes they do pass.
+pub fn sheet_passes(reading: usize, n: usize, sheet: &[f64]) -> bool
+    requires { ⌜ Square n (now sheet) ⌝ }
+    ensures { λ r. ⌜ (T r → placeQuestions reading n (now (sheet .entry)) ≡ pass) ⌝ }
+{
+    diagonal_passes(reading, n, sheet) && sizes_pass(n, sheet)
+}

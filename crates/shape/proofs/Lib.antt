@@ -1,0 +1,3 @@
+pub mod Outcome
+pub mod Square
+pub mod ShapeQuestions

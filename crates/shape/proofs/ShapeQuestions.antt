@@ -1,0 +1,67 @@
+-- Questions 1, 2 and 3 with those after them, and what is known of a call once they passed.
+use mathlib.Core.Path.{_≡_, ap, _∙_}
+use mathlib.Core.Bool.{_&&_}
+use mathlib.Core.List.{List}
+use Prim.Native.Nat.{ℕ, _*_, _≤_}
+use lib.Dec.{T, leb, eqb, leb→le, eqb→eq}
+use lib.ListN.{length}
+use lib.Ieee.{Float}
+use lib.Ieee.Fits.{and-l, and-r}
+use Rattle.definitions.specs.Questions.{Asked, pass, _then_, question1, question2, question3, question4, question5, numberQuestions, tableInput, entryInput}
+use Rattle.steps.proofs.QuestionLaws.{then-first, then-next, then-assoc, ask-yes}
+use Rattle.shape.specs.Square.{Square}
+
+is-stage : (k n : ℕ) → T (leb 1 k && leb k n) → (1 ≤ k) × (k ≤ n)
+is-stage k n t = (leb→le 1 k (and-l (leb 1 k) (leb k n) t), leb→le k n (and-r (leb 1 k) (leb k n) t))
+
+pub few-stages : (n : ℕ) → question2 n ≡ pass → n ≤ 32
+unfolding question2
+few-stages n e = is-stage n 32 (ask-yes (leb 1 n && leb n 32) 2 0 0 e) .1
+
+pub shape-few : (reading n : ℕ) (rest : Asked) → (question1 reading then question2 n then rest) ≡ pass → n ≤ 32
+shape-few reading n rest e = few-stages n (then-first (question2 n) rest (then-next (question1 reading) (question2 n then rest) e))
+
+all-pairs : (n held : ℕ) → question3 n held ≡ pass → held ≡ n * n
+unfolding question3
+all-pairs n held e = eqb→eq held (n * n) (ask-yes (eqb held (n * n)) 3 0 0 e)
+
+-- The questions that come after the first three.
+abbrev pub shapeThen : ℕ → ℕ → ℕ → Asked → Asked
+shapeThen reading n held rest = question1 reading then question2 n then question3 n held then rest
+
+module _ (reading n held : ℕ) where
+  pub shape-next : (rest : Asked) → ((question1 reading then question2 n then question3 n held) then rest) ≡ shapeThen reading n held rest
+  shape-next rest =
+      then-assoc (question1 reading) (question2 n then question3 n held) rest
+      ∙ ap (λ q. question1 reading then q) (then-assoc (question2 n) (question3 n held) rest)
+
+  pub shape-then : (own rest : Asked) → (shapeThen reading n held own then rest) ≡ shapeThen reading n held (own then rest)
+  shape-then own rest =
+      then-assoc (question1 reading) (question2 n then question3 n held then own) rest
+      ∙ ap (λ q. question1 reading then q)
+      (then-assoc (question2 n) (question3 n held then own) rest ∙ ap (λ q. question2 n then q) (then-assoc (question3 n held) own rest))
+
+module _ (reading n : ℕ) (sheet : List Float) where
+  pub shape-passed : (rest : Asked) → shapeThen reading n (length sheet) rest ≡ pass → Square n sheet × (rest ≡ pass)
+  shape-passed rest e =
+      let third = then-next (question2 n) (question3 n (length sheet) then rest) (then-next (question1 reading) (question2 n then question3 n (length sheet) then rest) e) in (
+        record {
+          few = shape-few reading n (question3 n (length sheet) then rest) e;
+          held = all-pairs n (length sheet) (then-first (question3 n (length sheet)) rest third);
+        },
+        then-next (question3 n (length sheet)) rest third,
+      )
+
+  -- The calls' own questions, 4 and 5, come next.
+  pub table-input-passed : (room : ℕ) → tableInput reading n sheet room ≡ pass → Square n sheet × (n * n ≤ room)
+  unfolding tableInput question4
+  table-input-passed room e =
+      let p = shape-passed (question4 n room then numberQuestions reading n sheet) e in
+      (p .0, leb→le (n * n) room (ask-yes (leb (n * n) room) 4 0 0 (then-first (question4 n room) (numberQuestions reading n sheet) (p .1))))
+
+  pub entry-input-passed : (i j : ℕ) → entryInput reading n sheet i j ≡ pass → Square n sheet × ((1 ≤ i) × (i ≤ n)) × ((1 ≤ j) × (j ≤ n))
+  unfolding entryInput question5
+  entry-input-passed i j e =
+      let p = shape-passed (question5 n i j then numberQuestions reading n sheet) e in
+      let t = ask-yes (leb 1 i && leb i n && (leb 1 j && leb j n)) 5 0 0 (then-first (question5 n i j) (numberQuestions reading n sheet) (p .1)) in
+      (p .0, is-stage i n (and-l (leb 1 i && leb i n) (leb 1 j && leb j n) t), is-stage j n (and-r (leb 1 i && leb i n) (leb 1 j && leb j n) t))

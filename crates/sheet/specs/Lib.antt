@@ -1,4 +1,0 @@
-pub mod Asked
-pub mod Places
-pub mod Marks
-pub mod Input

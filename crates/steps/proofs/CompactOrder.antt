@@ -1,0 +1,120 @@
+-- Compact order: the listed stages rise, a stage's rank is its place in the list, and both ways lead back.
+use Prim.Native.Nat.{ℕ, zero, suc, _+_, _-_, _<_, _≤_}
+use mathlib.Core.Bool.{Bool, true, false, cond}
+use mathlib.Core.List.{List, [], _∷_, _++_, append-nil}
+use mathlib.Core.Path.{_≡_, refl, ap, ap₂, _∙_}
+use native.Mathlib.Nat.{add-zero, add-suc, le-refl, le-trans}
+use native.Mathlib.Numerals.{add-one}
+use native.Mathlib.Decide.{decLt}
+use native.Mathlib.Omega.{arith}
+use lib.ListN.{length, getD, length-append, List·getD-append}
+use lib.Seq.{getD-at}
+use Rattle.exact.proofs.Cases.{by-bool}
+use Rattle.definitions.specs.Margins.{stagesWith, rank}
+
+-- A list looks at the stages below n alone.
+pub stagesWith-same : (test other : ℕ → Bool) (n : ℕ) → ((i : ℕ) → i < n → test i ≡ other i) → stagesWith test n ≡ stagesWith other n
+unfolding stagesWith
+stagesWith-same test other zero e = refl
+stagesWith-same test other (suc n) e = ap₂ (λ (xs : List ℕ) (b : Bool). xs ++ cond b (n ∷ []) []) (stagesWith-same test other n (λ i l. e i (omega arith))) (e n (omega arith))
+
+pub rank-same : (test other : ℕ → Bool) (n : ℕ) → ((i : ℕ) → i < n → test i ≡ other i) → rank test n ≡ rank other n
+unfolding rank
+rank-same test other n e = ap length (stagesWith-same test other n e)
+
+module _ (test : ℕ → Bool) where
+  pub list-take : (n : ℕ) → test n ≡ true → stagesWith test (suc n) ≡ stagesWith test n ++ (n ∷ [])
+  unfolding stagesWith
+  list-take n e = rw (e, stagesWith)
+
+  pub list-leave : (n : ℕ) → test n ≡ false → stagesWith test (suc n) ≡ stagesWith test n
+  unfolding stagesWith
+  list-leave n e = rw (e, stagesWith) (append-nil (stagesWith test n))
+
+  pub rank-none : rank test 0 ≡ 0
+  unfolding rank stagesWith
+  rank-none = refl
+
+  pub rank-length : (n : ℕ) → length (stagesWith test n) ≡ rank test n
+  unfolding rank
+  rank-length n = refl
+
+  pub rank-take : (n : ℕ) → test n ≡ true → rank test (suc n) ≡ suc (rank test n)
+  unfolding rank
+  rank-take n e = ap length (list-take n e) ∙ length-append (stagesWith test n) (n ∷ []) ∙ add-one (rank test n)
+
+  pub rank-leave : (n : ℕ) → test n ≡ false → rank test (suc n) ≡ rank test n
+  unfolding rank
+  rank-leave n e = ap length (list-leave n e)
+
+  pub rank-step : (n : ℕ) → rank test n ≤ rank test (suc n)
+  rank-step n =
+      by-bool (test n) (λ e. let h = rank-take n e in omega arith) (λ e. let h = rank-leave n e in omega arith)
+
+  pub rank-within : (n : ℕ) → rank test n ≤ n
+  rank-within zero = let z = rank-none in omega arith
+  rank-within (suc n) =
+      let h = rank-within n in
+      by-bool (test n) (λ e. let s = rank-take n e in omega arith) (λ e. let s = rank-leave n e in omega arith)
+
+  pub rank-mono : (i d : ℕ) → rank test i ≤ rank test (i + d)
+  rank-mono i zero = rw add-zero (le-refl (rank test i))
+  rank-mono i (suc d) = rw add-suc (le-trans (rank-mono i d) (rank-step (i + d)))
+
+  pub rank-below : (n i : ℕ) → i < n → test i ≡ true → rank test i < rank test n
+  rank-below n i h t =
+      let e : suc i + (n - suc i) ≡ n = omega arith in
+      let g : rank test (suc i) ≤ rank test n = rw e at (rank-mono (suc i) (n - suc i)) in
+      let s = rank-take i t in
+      omega arith
+
+  -- The list up to n begins with the list up to i.
+  pub list-longer : (i d q : ℕ) → q < rank test i → getD (stagesWith test (i + d)) q 0 ≡ getD (stagesWith test i) q 0
+  list-longer i zero q h = rw add-zero
+  list-longer i (suc d) q h = rw add-suc (by-bool (test (i + d)) taken left ∙ list-longer i d q h)
+    where
+      within : q < length (stagesWith test (i + d))
+      within = let m = rank-mono i d in rw rank-length (omega arith)
+
+      taken : test (i + d) ≡ true → getD (stagesWith test (suc (i + d))) q 0 ≡ getD (stagesWith test (i + d)) q 0
+      taken e = ap (λ l. getD l q 0) (list-take (i + d) e) ∙ List·getD-append (stagesWith test (i + d)) ((i + d) ∷ []) 0 q within
+
+      left : test (i + d) ≡ false → getD (stagesWith test (suc (i + d))) q 0 ≡ getD (stagesWith test (i + d)) q 0
+      left e = ap (λ l. getD l q 0) (list-leave (i + d) e)
+
+  -- A stage of the list, from its rank.
+  pub stage-of-rank : (n i : ℕ) → i < n → test i ≡ true → getD (stagesWith test n) (rank test i) 0 ≡ i
+  stage-of-rank n i h t =
+      let e : suc i + (n - suc i) ≡ n = omega arith in
+      let s = rank-take i t in
+      let g : rank test i < rank test (suc i) = omega arith in
+      let longer = rw e at (list-longer (suc i) (n - suc i) (rank test i) g) in
+      longer ∙ ap (λ l. getD l (rank test i) 0) (list-take i t) ∙ getD-at (stagesWith test i) i [] 0 (rank test i) (rank-length i)
+
+  -- The stage at each place of the list: below n, passes the test, and has that place as its rank.
+  pub record Listed (n q i : ℕ) : Type 0 where
+    pub below : i < n
+    pub passes : test i ≡ true
+    pub place : rank test i ≡ q
+
+  pub listed : (n q : ℕ) → q < rank test n → Listed n q (getD (stagesWith test n) q 0)
+  listed zero q h = absurd (let z = rank-none in omega arith)
+  listed (suc n) q h = go (decLt q (rank test n)) (listed n q)
+    where
+      same : q < rank test n → getD (stagesWith test (suc n)) q 0 ≡ getD (stagesWith test n) q 0
+      same g = rw add-one at (list-longer n 1 q g)
+
+      weaker : {i : ℕ} → Listed n q i → Listed (suc n) q i
+      weaker l = record { below = omega (arith, l .below); passes = l .passes; place = l .place }
+
+      last : ¬ (q < rank test n) → (e : test n ≡ true) → Listed (suc n) q (getD (stagesWith test (suc n)) q 0)
+      last g e =
+          let z = rank-take n e in
+          let w : rank test n ≡ q = omega arith in
+          let i : getD (stagesWith test (suc n)) q 0 ≡ n =
+          ap (λ l. getD l q 0) (list-take n e) ∙ getD-at (stagesWith test n) n [] 0 q (rank-length n ∙ w) in
+          rw i (record { below = omega arith; passes = e; place = w })
+
+      go : Dec (q < rank test n) → (q < rank test n → Listed n q (getD (stagesWith test n) q 0)) → Listed (suc n) q (getD (stagesWith test (suc n)) q 0)
+      go (yes g) earlier = rw (same g) (weaker (earlier g))
+      go (no g) earlier = by-bool (test n) (last g) (λ e. absurd (let z = rank-leave n e in omega arith))

@@ -1,0 +1,82 @@
+-- Laws of the questions: one after another, and what it says of a sheet that they are answered yes.
+use Prim.Native.Nat.{ℕ, zero, suc, _+_, _<_}
+use mathlib.Core.Bool.{Bool, true, false}
+use mathlib.Core.Path.{_≡_, refl, ap₂, _∙_}
+use native.Mathlib.Omega.{arith}
+use lib.Dec.{T}
+use Rattle.exact.specs.Chains.{In}
+use Rattle.exact.proofs.Sums.{none-in, on-range}
+use lib.Ieee.Bits.{is-true}
+use Rattle.definitions.specs.Questions.{Asked, pass, refuse, _then_, ask, askRow, askRows, askStages}
+
+-- An answer is a pass or a refusal.
+pub never-both : {q : Asked} {number row column : ℕ} → q ≡ refuse number row column → q ≡ pass → ⊥
+never-both e p = let z : _≡_ {A = ℕ} 0 1 = cc in omega arith
+
+pub then-assoc : (p q r : Asked) → ((p then q) then r) ≡ (p then q then r)
+then-assoc pass q r = refl
+then-assoc (refuse number row column) q r = refl
+
+-- Questions one after another, each answered yes.
+pub then-first : (a b : Asked) → a then b ≡ pass → a ≡ pass
+then-first pass b e = refl
+then-first (refuse n i j) b e = e
+
+pub then-next : (a b : Asked) → a then b ≡ pass → b ≡ pass
+then-next pass b e = e
+then-next (refuse n i j) b e = cc
+
+pub ask-yes : (b : Bool) (n i j : ℕ) → ask b n i j ≡ pass → T b
+ask-yes true n i j e = tt
+ask-yes false n i j e = absurd (let z : _≡_ {A = ℕ} 0 1 = cc in omega arith)
+
+yes-ask : (b : Bool) (n i j : ℕ) → T b → ask b n i j ≡ pass
+yes-ask b n i j t = rw (is-true b t)
+
+-- A question of m places from i on, one place after another.
+scan-yes :
+    (one : ℕ → Asked) (scan : ℕ → ℕ → Asked) → ((i m : ℕ) → scan i (suc m) ≡ one i then scan (suc i) m)
+    → (i m : ℕ) → scan i m ≡ pass → (k : ℕ) → In i m k → one k ≡ pass
+scan-yes one scan step i zero e = λ k h. absurd (none-in h)
+scan-yes one scan step i (suc m) e =
+    let both = rw (step i m) at e in
+    on-range (λ k. one k ≡ pass) (then-first (one i) (scan (suc i) m) both)
+    (scan-yes one scan step (suc i) m (then-next (one i) (scan (suc i) m) both))
+
+module _ (good : ℕ → ℕ → Bool) (number n : ℕ) where
+  row-yes : (i : ℕ) → askRow good number i 0 n ≡ pass → (j : ℕ) → j < n → T (good i j)
+  unfolding askRow
+  row-yes i e j h =
+      ask-yes (good i j) number (suc i) (suc j)
+      (scan-yes (λ j. ask (good i j) number (suc i) (suc j)) (askRow good number i) (λ j m. refl) 0 n e j (omega arith))
+
+  pub rows-yes : askRows good number n 0 n ≡ pass → (i j : ℕ) → i < n → j < n → T (good i j)
+  unfolding askRows
+  rows-yes e i j hi hj =
+      row-yes i (scan-yes (λ i. askRow good number i 0 n) (askRows good number n) (λ i m. refl) 0 n e i (omega arith)) j hj
+
+pub stages-yes : (good : ℕ → Bool) (number n : ℕ) → askStages good number 0 n ≡ pass → (i : ℕ) → i < n → T (good i)
+unfolding askStages
+stages-yes good number n e i h =
+    ask-yes (good i) number (suc i) 0 (scan-yes (λ i. ask (good i) number (suc i) 0) (askStages good number) (λ i m. refl) 0 n e i (omega arith))
+
+-- The other way round.
+scan-pass :
+    (one : ℕ → Asked) (scan : ℕ → ℕ → Asked) → ((i : ℕ) → scan i 0 ≡ pass) → ((i m : ℕ) → scan i (suc m) ≡ one i then scan (suc i) m)
+    → (i m : ℕ) → ((k : ℕ) → k < i + m → one k ≡ pass) → scan i m ≡ pass
+scan-pass one scan none step i zero h = none i
+scan-pass one scan none step i (suc m) h = step i m ∙ rw (h i (omega arith)) (scan-pass one scan none step (suc i) m (λ k l. h k (omega arith)))
+
+pub rows-pass : (good : ℕ → ℕ → Bool) (number n : ℕ) → ((i j : ℕ) → i < n → j < n → T (good i j)) → askRows good number n 0 n ≡ pass
+unfolding askRow askRows
+rows-pass good number n h =
+    scan-pass (λ i. askRow good number i 0 n) (askRows good number n) (λ i. refl) (λ i m. refl) 0 n
+    (λ i hi. scan-pass (λ j. ask (good i j) number (suc i) (suc j)) (askRow good number i) (λ j. refl) (λ j m. refl) 0 n
+    (λ j hj. yes-ask (good i j) number (suc i) (suc j) (h i j (omega arith) (omega arith))))
+
+-- A search looks at its own stages alone.
+pub stages-same : (p q : ℕ → Bool) (number i m : ℕ) → ((k : ℕ) → k < i + m → p k ≡ q k) → askStages p number i m ≡ askStages q number i m
+unfolding askStages
+stages-same p q number i zero e = refl
+stages-same p q number i (suc m) e =
+    ap₂ (λ yes rest. ask yes number (suc i) 0 then rest) (e i (omega arith)) (stages-same p q number (suc i) m (λ k h. e k (omega arith)))

@@ -1,0 +1,4 @@
+pub mod RowMajor
+pub mod Vectors
+pub mod Operators
+pub mod Rows

@@ -1,0 +1,74 @@
+// Question 9 of document 01: the lowest stage that no chain of moves leads out of. The stages that get out are
+// marked backwards from the exits.
+ghost use Prim.Native.Nat.{_≤_};
+ghost use mathlib.Core.Path.{_≡_};
+ghost use mathlib.Core.Bool.{false};
+ghost use lib.ListN.{getD};
+ghost use Rattle.definitions.specs.Questions.{question9, getsOut, askStages};
+ghost use Rattle.shape.specs.Outcome.{asked};
+ghost use Rattle.shape.specs.Square.{Square};
+ghost use Rattle.marks.specs.Marks.{isMarked, Marked};
+ghost use Rattle.trapped.specs.NextStage.{NextStage};
+use marks::Marks;
+use shape::Asked;
+
+// The first marked stage that is not done, or n.
+fn next_stage(n: usize, marks: Marks, done: &[bool; 32]) -> usize
+    requires { ⌜ n ≤ 32 ⌝ }
+    ensures { λ r. ⌜ NextStage (isMarked marks) (λ i. getD (now (done .entry)) i false) n r ⌝ }
+{
+    for i in 0..n {
+        if marks.marked[i] & !done[i] {
+            return i;
+        }
+    }
+    n
+}
+
+// The stages that get out. A stage is done once all that move to it are marked, so there are at most n turns.
+fn reach(n: usize, sheet: &[f64]) -> Marks
+    requires { ⌜ Square n (now sheet) ⌝ }
+    ensures { λ r. ⌜ Marked (getsOut n (now (sheet .entry))) n r ⌝ }
+{
+    let mut marks = marks::exits(n, sheet);
+    let mut done = [false; 32];
+    loop {
+        if marks.count == n {
+            return marks;
+        }
+        let j = next_stage(n, marks, &done);
+        if j == n {
+            return marks;
+        }
+        marks = marks::mark_movers(n, j, sheet, marks);
+        done[j] = true;
+    }
+}
+
+// Refuses the lowest stage that is not marked.
+fn ask_marked(n: usize, marks: Marks) -> Asked
+    requires { ⌜ n ≤ 32 ⌝ }
+    ensures { λ r. ⌜ asked r ≡ askStages (isMarked marks) 9 0 n ⌝ }
+{
+    for i in 0..n {
+        if !marks.marked[i] {
+            return Asked::Refuse {
+                number: 9,
+                row: i + 1,
+                column: 0,
+            };
+        }
+    }
+    Asked::Pass
+}
+
+// Question 9. That it names the lowest trapped stage is a theorem (crates/steps/specs/Trapped.antt).
+pub fn ask_trapped(reading: usize, n: usize, sheet: &[f64]) -> Asked
+    requires { ⌜ Square n (now sheet) ⌝ }
+    ensures { λ r. ⌜ asked r ≡ question9 reading n (now (sheet .entry)) ⌝ }
+{
+    if reading != 1 {
+        return Asked::Pass;
+    }
+    ask_marked(n, reach(n, sheet))
+}
