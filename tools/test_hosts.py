@@ -1,22 +1,17 @@
 #!/usr/bin/env python3
 """Tests of the library for hosts; run by `python3 tools/test_hosts.py`.
 
-Builds target/staticlib/libhosts.a by `rt staticlib hosts`, links it into a shared object and calls every
-export through ctypes, with the parameters in the order in which include/yulanbowls.h declares them.  The
-environment variable CC names the C compiler.  Expected values come from the reference alone.  Every lent
-area and place stands between guards and holds other bits before the call, so that a place that is written
-or left against the promise is noticed.
+Builds the library and calls every export (`tools/hosts.py`), so that each call is held to the reference;
+the tests say which calls.  `tools/fuzz.py` makes many random ones.
 """
 from __future__ import annotations
 
-import ctypes
 import os
 import random
 import re
 import shlex
 import shutil
 import struct
-import subprocess
 import sys
 import tempfile
 import threading
@@ -24,58 +19,24 @@ import unittest
 from pathlib import Path
 from typing import NamedTuple, Optional, Sequence
 
-ROOT = Path(__file__).resolve().parent.parent
-HEADER = ROOT / "include" / "yulanbowls.h"
-ARCHIVE = ROOT / "target" / "staticlib" / "libhosts.a"
-CC = shlex.split(os.environ.get("CC", "cc"))
+from hosts import ARCHIVE, CC, HEADER, PLACES, ROOT, TEXT_BYTES, Calls, Library, Told, declared, must, run
+import reference
+from reference import Refused, bits_of, number_of
+
 STRICT = ["-Wall", "-Wextra", "-pedantic", "-Werror", "-I", str(ROOT / "include")]
-TEXT_BYTES = 32768
-PLACES = 1024
 NAN, INF = float("nan"), float("inf")
 
-sys.dont_write_bytecode = True
-sys.path.insert(0, str(ROOT / "tools"))
-import reference  # noqa: E402
-from reference import Loaded, Refused, Table, bits_of, number_of  # noqa: E402
-
-
-# ==== The library ====
 
 class Built:
     """What is built once for all tests."""
     folder: tempfile.TemporaryDirectory[str]
-    library: ctypes.CDLL
-    parameters: dict[str, list[str]]
-
-
-def run(*command: str, stdin: bytes = b"") -> subprocess.CompletedProcess[bytes]:
-    """Runs a command in the repository."""
-    return subprocess.run(command, input=stdin, stdout=subprocess.PIPE, stderr=subprocess.STDOUT, cwd=ROOT,
-                          check=False)
-
-
-def must(*command: str) -> None:
-    """Runs a command that has to succeed."""
-    done = run(*command)
-    if done.returncode != 0:
-        raise RuntimeError(f"{shlex.join(command)} failed:\n{done.stdout.decode()}")
-
-
-def declared() -> dict[str, list[str]]:
-    """The functions that the header declares, with the names of their parameters in order."""
-    text = re.sub(r"/\*.*?\*/", "", HEADER.read_text(), flags=re.DOTALL)
-    found = re.findall(r"\bsize_t (\w+)\(([^)]*)\);", text)
-    return {name: [re.findall(r"\w+", part)[-1] for part in parts.split(",")] for name, parts in found}
+    library: Library
 
 
 def setUpModule() -> None:
     """Builds the archive and a shared object of it."""
-    must("rt", "staticlib", "hosts")
     Built.folder = tempfile.TemporaryDirectory()
-    shared = str(Path(Built.folder.name) / "libhosts.so")
-    must(*CC, "-shared", "-Wl,--whole-archive", str(ARCHIVE), "-Wl,--no-whole-archive", "-o", shared)
-    Built.library = ctypes.CDLL(shared)
-    Built.parameters = declared()
+    Built.library = Library(Built.folder.name)
 
 
 def tearDownModule() -> None:
@@ -83,140 +44,38 @@ def tearDownModule() -> None:
     Built.folder.cleanup()
 
 
-def call(name: str, **arguments: int) -> int:
-    """Calls an export, each argument at its parameter's place in the header; pointers are addresses."""
-    function = getattr(Built.library, name)
-    function.restype = ctypes.c_size_t
-    order = Built.parameters[name]
-    if set(order) != set(arguments):
-        raise TypeError(f"{name} takes {order}")
-    return function(*(ctypes.c_size_t(arguments[parameter]) for parameter in order))
-
-
-class Lent:
-    """A lent area, or one place, of 64-bit words or of bytes, between guards."""
-    GUARD = list(b"guarded!")
-
-    def __init__(self, content: Sequence[int], word: type = ctypes.c_uint64) -> None:
-        self.length = len(content)
-        self.memory = (word * (self.length + 2 * len(self.GUARD)))(*self.GUARD, *content, *self.GUARD)
-        self.address = ctypes.addressof(self.memory) + len(self.GUARD) * ctypes.sizeof(word)
-
-    def after(self) -> list[int]:
-        """What the area holds now; the guards are checked."""
-        memory, start = list(self.memory), len(self.GUARD)
-        if memory[:start] != self.GUARD or memory[start + self.length:] != self.GUARD:
-            raise AssertionError("a place outside the lent area was written")
-        return memory[start:start + self.length]
-
-
-def other_words(rng: random.Random, count: int) -> list[int]:
-    """Words that stand in an area before a call: any bits, NaN patterns among them."""
-    return [rng.choice([rng.getrandbits(64), 0x7ff0000000000001 + rng.getrandbits(40)]) for _ in range(count)]
-
-
-def told(answer: object) -> tuple[int, int, int]:
-    """Number, row and column of an answer of the reference: zeros where it is no refusal."""
-    return (answer.number, answer.row, answer.column) if isinstance(answer, Refused) else (0, 0, 0)
-
-
 class HostTest(unittest.TestCase):
-    """A test with random numbers of its own and the calls, each compared with the reference."""
+    """A test with random numbers of its own, and the calls."""
 
     def setUp(self) -> None:
         """Starts the random numbers anew."""
         self.rng = random.Random(20240607)
+        self.calls = Calls(Built.library, self.rng)
 
-    def places(self, count: int) -> list[Lent]:
-        """Out places, each with other bits in it."""
-        return [Lent(other_words(self.rng, 1)) for _ in range(count)]
-
-    def table(self, reading: int, n: int, sheet: Sequence[float],
-              room: Optional[int] = None) -> tuple[int, int, int]:
+    def table(self, reading: int, n: int, sheet: Sequence[float], room: Optional[int] = None) -> Told:
         """The whole table of a sheet with an area of so many places (n × n if not said)."""
-        words, before = [bits_of(x) for x in sheet], other_words(self.rng, n * n if room is None else room)
-        numbers, area = Lent(words), Lent(before)
-        allowance, row, column = self.places(3)
-        number = call("yulanbowls_table", reading=reading, n=n, sheet=numbers.address, sheet_length=len(sheet),
-                      answer=area.address, answer_length=len(before), allowance=allowance.address,
-                      row=row.address, column=column.address)
-        answer = reference.table(reading, n, sheet, len(before))
-        entries = [bits_of(x) for x in answer.entries] if isinstance(answer, Table) else []
-        what = f"reading {reading}, n {n}, room {len(before)}, sheet {sheet}"
-        self.assertEqual((number, *row.after(), *column.after()), told(answer), what)
-        self.assertEqual(allowance.after(), [answer.allowance if isinstance(answer, Table) else 0], what)
-        self.assertEqual(area.after(), entries + before[len(entries):], what)
-        self.assertEqual(numbers.after(), words, what)
-        return told(answer)
+        return self.calls.table(reading, n, [bits_of(x) for x in sheet], n * n if room is None else room)
 
-    def entry(self, reading: int, n: int, sheet: Sequence[float], i: int, j: int) -> tuple[int, int, int]:
+    def entry(self, reading: int, n: int, sheet: Sequence[float], i: int, j: int) -> Told:
         """Entry (i, j) of a sheet."""
-        words = [bits_of(x) for x in sheet]
-        numbers = Lent(words)
-        seconds, row, column = self.places(3)
-        number = call("yulanbowls_entry", reading=reading, n=n, sheet=numbers.address, sheet_length=len(sheet),
-                      i=i, j=j, seconds=seconds.address, row=row.address, column=column.address)
-        answer = reference.entry(reading, n, sheet, i, j)
-        what = f"reading {reading}, n {n}, entry {i} {j}, sheet {sheet}"
-        self.assertEqual((number, *row.after(), *column.after()), told(answer), what)
-        self.assertEqual(seconds.after(), [0 if isinstance(answer, Refused) else bits_of(answer.value)], what)
-        self.assertEqual(numbers.after(), words, what)
-        return told(answer)
+        return self.calls.entry(reading, n, [bits_of(x) for x in sheet], i, j)
 
-    def sheet(self, reading: int, n: int, sheet: Sequence[float]) -> tuple[int, int, int]:
+    def sheet(self, reading: int, n: int, sheet: Sequence[float]) -> Told:
         """The whole table of a sheet, and its first and last entry, which is refused alike."""
         answer = self.table(reading, n, sheet)
         self.assertEqual(self.entry(reading, n, sheet, 1, n), answer)
         self.assertEqual(self.entry(reading, n, sheet, n, 1), answer)
         return answer
 
-    def same_number(self, got: int, word: int) -> None:
-        """A number that was read has the file's bits; for a NaN it is some NaN."""
-        if number_of(word) != number_of(word):
-            self.assertNotEqual(number_of(got), number_of(got))
-        else:
-            self.assertEqual(got, word)
-
-    def file(self, data: bytes, room: int = PLACES) -> tuple[int, int, int]:
+    def file(self, data: bytes, room: int = PLACES) -> Told:
         """A file read into numbers and into words, each with an area of so many places."""
-        answer = reference.load(data, room)
-        words = answer.words if isinstance(answer, Loaded) else []
-        head = [answer.reading, answer.n] if isinstance(answer, Loaded) else [0, 0]
-        for name in ("yulanbowls_read_numbers", "yulanbowls_read_words"):
-            before = other_words(self.rng, room)
-            source, area = Lent(data, ctypes.c_uint8), Lent(before)
-            reading, n, row, column = self.places(4)
-            number = call(name, bytes=source.address, bytes_length=len(data), area=area.address,
-                          area_length=room, reading=reading.address, n=n.address, row=row.address,
-                          column=column.address)
-            self.assertEqual((number, *row.after(), *column.after()), told(answer), name)
-            self.assertEqual(reading.after() + n.after(), head, name)
-            after = area.after()
-            self.assertEqual(after[len(words):], before[len(words):], name)
-            if name == "yulanbowls_read_words":
-                self.assertEqual(after[:len(words)], words)
-            for got, word in zip(after, words):
-                self.same_number(got, word)
-            self.assertEqual(source.after(), list(data), name)
-        return told(answer)
+        answer = self.calls.read("yulanbowls_read_numbers", data, room)
+        self.assertEqual(self.calls.read("yulanbowls_read_words", data, room), answer)
+        return answer
 
     def report(self, data: bytes, room: int = TEXT_BYTES) -> bytes:
         """The report on a file in an area of so many bytes."""
-        before = [self.rng.getrandbits(8) for _ in range(room)]
-        source, area = Lent(data, ctypes.c_uint8), Lent(before, ctypes.c_uint8)
-        length = call("yulanbowls_report", bytes=source.address, bytes_length=len(data), text=area.address,
-                      text_length=room)
-        expected = report_text(data) if room >= TEXT_BYTES else b""
-        self.assertEqual(length, len(expected))
-        self.assertEqual(area.after(), list(expected) + before[len(expected):])
-        self.assertEqual(source.after(), list(data))
-        return expected
-
-
-def report_text(data: bytes) -> bytes:
-    """What a report on all these bytes is; dwell itself looks at no more than a longest file and a byte."""
-    answer = reference.load(data, PLACES)
-    return (reference.refused_line(answer) if isinstance(answer, Refused) else reference.dwell(data)).encode()
+        return self.calls.report(data, room)
 
 
 # ==== Sheets and files ====
@@ -259,7 +118,8 @@ def good_files(rng: random.Random) -> list[bytes]:
     """Files of every small size and of the longest, with words of all kinds."""
     files = [file_of(sheet) for sheet in SHEETS + random_sheets(rng, [1, 2, 3, 5, 8, 32])]
     for n in (1, 4, 32):
-        files.append(reference.make_file_words(rng.choice([1, 2]), n, other_words(rng, n * n)))
+        words = [rng.choice([rng.getrandbits(64), 0x7ff0000000000001 + rng.getrandbits(40)]) for _ in range(n * n)]
+        files.append(reference.make_file_words(rng.choice([1, 2]), n, words))
     return files
 
 

@@ -20,19 +20,19 @@ use Rattle.definitions.specs.Table.{entry, everyStepInRange}
 use Rattle.definitions.specs.Accuracy.{Binary64, Accurate, AccuracyRule}
 use Rattle.definitions.specs.Questions.{pass, question1, question2, question3, question4, question10, numberQuestions, tableInput, tableQuestions, Accepted, _then_}
 use Rattle.rounding.specs.Good.{one·units}
-use Rattle.accuracy.specs.LeavingRatesAccuracy.{inUnits, identityColumn, Computed, EngineWithin, EngineAccuracy}
-use Rattle.accuracy.specs.Reduction.{delta, SystemColumns, NearTable}
-use Rattle.accuracy.specs.ExactRatios.{RatiosExist}
-use Rattle.accuracy.specs.RowForms.{InUnits}
-use Rattle.accuracy.specs.ReducedReadings.{LeavingRatesReduced, MarginsReduced}
-use Rattle.accuracy.specs.MarginsAccuracy.{GoodMargins, sizesInUnits, marginsInUnits, MarginsAccuracy}
+use Rattle.rates_accuracy.specs.LeavingRatesAccuracy.{inUnits, identityColumn, Computed, EngineWithin, EngineAccuracy}
+use Rattle.inverse.specs.Reduction.{delta, SystemColumns, NearTable}
+use Rattle.inverse.specs.ExactRatios.{RatiosExist}
+use Rattle.inverse.specs.RowForms.{InUnits}
+use Rattle.inverse.specs.ReducedReadings.{LeavingRatesReduced, MarginsReduced}
+use Rattle.margins_accuracy.specs.MarginsAccuracy.{GoodMargins, sizesInUnits, marginsInUnits, MarginsAccuracy}
 use Rattle.steps.proofs.QuestionLaws.{then-first, then-next, ask-yes}
-use Rattle.accuracy.proofs.Input.{table-numbers, size-is, diagonal-is, input-good, input-positive, input-out}
-use Rattle.accuracy.proofs.LeavingRatesRange.{table-shared, table-column}
-use Rattle.accuracy.proofs.LeavingRatesAccuracy.{engine-accuracy}
-use Rattle.accuracy.proofs.ExactRatios.{ratios-exist}
-use Rattle.accuracy.proofs.ReducedReadings.{leaving-rates-reduced, margins-reduced}
-use Rattle.accuracy.proofs.MarginsAccuracy.{margins-accuracy}
+use Rattle.rates_accuracy.proofs.Input.{table-numbers, size-is, diagonal-is, input-good, input-positive, input-out}
+use Rattle.rates_accuracy.proofs.LeavingRatesRange.{table-shared, table-column}
+use Rattle.rates_accuracy.proofs.LeavingRatesAccuracy.{engine-accuracy}
+use Rattle.inverse.proofs.ExactRatios.{ratios-exist}
+use Rattle.inverse.proofs.ReducedReadings.{leaving-rates-reduced, margins-reduced}
+use Rattle.margins_accuracy.proofs.MarginsAccuracy.{margins-accuracy}
 use Rattle.exact.proofs.Run.{cube}
 
 -- Reading 1: the exact solution of each column exists, and the engine's quotients are near it.

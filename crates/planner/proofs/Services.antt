@@ -20,7 +20,7 @@ use Rattle.steps.proofs.TableLaws.{length-rows, rows-same, place-of-rows}
 use Rattle.shape.proofs.ShapeQuestions.{entry-input-passed}
 use Rattle.accuracy.proofs.Rule.{accurate-table}
 use Rattle.steps.proofs.QuestionLaws.{never-both, then-first}
-use Rattle.accuracy.proofs.Input.{table-numbers, entry-numbers}
+use Rattle.rates_accuracy.proofs.Input.{table-numbers, entry-numbers}
 use Rattle.planner.specs.declared.Table.the-variants as given-table
 use Rattle.planner.specs.declared.Entry.the-variants as given-entry
 use Rattle.readings.specs.Stepped.{Stepped}

@@ -48,7 +48,7 @@ pub fn products_in_range(k: usize, m: f64, lo: usize, hi: usize, a: &[f64; 1024]
     let mut ok = true;
     for j in lo..hi {
         let y = row::get(k, j, a);
-        let step = rounding::mul_in_range(m, y);
+        let step = rounding::result_in_range(m, y, m * y);
         ok = ok & step;
     }
     ok
@@ -66,7 +66,7 @@ pub fn row_told(r: usize, k: usize, i: usize, p: f64, m: f64, lo: f64, t: &[f64;
     if above(m, lo) {
         return true;
     }
-    let multiplier = rounding::div_in_range(x, p);
+    let multiplier = rounding::result_in_range(x, p, m);
     let left = products_in_range(k, m, k, i, t);
     let right = products_in_range(k, m, i + 1, r, t);
     multiplier & (left & right)

@@ -1,8 +1,8 @@
-// The steps' operations on f64 with their range tests, and 64-bit words as numbers. No function
-// has a `requires`: each contract holds for every f64 and every word.
+// The range tests of the steps' results, and 64-bit words as numbers. No function has a `requires`: each
+// contract holds for every f64 and every word.
 ghost use mathlib.Core.Path.{_≡_};
 ghost use lib.Ieee.{binary64, ofBits, toBits};
-ghost use Rattle.definitions.specs.Numbers.{_⊕_, _⊗_, _⊘_, finite, addInRange, mulInRange, divInRange};
+ghost use Rattle.definitions.specs.Numbers.{finite};
 ghost use Rattle.rounding.specs.ResultRange.{resultInRange};
 
 // Whether x is neither a NaN nor an infinity.
@@ -10,30 +10,6 @@ pub fn is_finite(x: f64) -> bool
     ensures { λ r. ⌜ r ≡ finite x ⌝ }
 {
     x - x == 0.0
-}
-
-pub fn add(x: f64, y: f64) -> f64
-    ensures { λ r. ⌜ r ≡ x ⊕ y ⌝ }
-{
-    x + y
-}
-
-pub fn mul(x: f64, y: f64) -> f64
-    ensures { λ r. ⌜ r ≡ x ⊗ y ⌝ }
-{
-    x * y
-}
-
-pub fn div(x: f64, y: f64) -> f64
-    ensures { λ r. ⌜ r ≡ x ⊘ y ⌝ }
-{
-    x / y
-}
-
-pub fn add_in_range(x: f64, y: f64) -> bool
-    ensures { λ r. ⌜ r ≡ addInRange x y ⌝ }
-{
-    is_finite(x + y)
 }
 
 // The test of a product or quotient r of x and y: finite, and above 2^-1022 unless x or y is zero.
@@ -44,18 +20,6 @@ pub fn result_in_range(x: f64, y: f64, r: f64) -> bool
     let zero = (x == 0.0) | (y == 0.0);
     let large = 2.2250738585072014e-308 < r;
     finite & (zero | large)
-}
-
-pub fn mul_in_range(x: f64, y: f64) -> bool
-    ensures { λ r. ⌜ r ≡ mulInRange x y ⌝ }
-{
-    result_in_range(x, y, x * y)
-}
-
-pub fn div_in_range(x: f64, y: f64) -> bool
-    ensures { λ r. ⌜ r ≡ divInRange x y ⌝ }
-{
-    result_in_range(x, y, x / y)
 }
 
 // The number whose bits are w; every NaN pattern gives the one NaN of the model.

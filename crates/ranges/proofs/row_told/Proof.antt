@@ -1,6 +1,7 @@
 -- `ranges::row_told` meets its contract: the multiplier, a parameter, is a number of the format. Assumes nothing.
 use borrow.Author.Needs.{needs}
-use Rattle.rounding.proofs.ResultRange.{is-zero-is}
+use mathlib.Core.Path.{_∙_}
+use Rattle.rounding.proofs.ResultRange.{is-zero-is, quotient-test}
 use Rattle.tables.specs.RowMajor.{table}
 use Rattle.ranges.proofs.RowTests.{zero-row, bounded-row, tested-row}
 use Rattle.ranges.proofs.row_told.Statement.{statement}
@@ -27,7 +28,7 @@ returns-3 c =
     let s = g .before in
     let f = table (s .args .t .now) in
     tested-row (s .args .r) (s .args .k) (s .args .i) (s .args .p) (f (s .args .i)) (f (s .args .k)) (s .pre .0) (s .pre .1) (s .pre .4)
-    (g .get .ensures) (d .div-in-range .ensures) (c .before .products-in-range .ensures) (c .products-in-range2 .ensures)
+    (g .get .ensures) (d .result-in-range .ensures ∙ rw (s .pre .4, ← g .get .ensures) (quotient-test (g .get .result) (s .args .p))) (c .before .products-in-range .ensures) (c .products-in-range2 .ensures)
 
 pub row-told-spec : {M : Type 1} → statement M
 row-told-spec =

@@ -1,0 +1,8 @@
+pub mod Integers
+pub mod PartialSums
+pub mod SignedFractions
+pub mod Reduction
+pub mod ExactRatios
+pub mod ExactScaled
+pub mod RowForms
+pub mod ReducedReadings

@@ -1,0 +1,214 @@
+-- The accuracy rule follows from its whole-number form. X has the entries z_ji / Z_j; a matrix Y that is inverse too has each
+-- column over the product of its denominators, as P − Q over D, and Z·P is compared with Z·Q + D·z.
+use mathlib.Core.Path.{_≡_, refl, sym, ap, _∙_, subst}
+use mathlib.Core.Logic.{_≢_, inr}
+use mathlib.Core.Bool.{Bool, true, false, not, cond}
+use Prim.Native.Nat.{ℕ, _+_, _*_, _/_, _^_, _<_, max}
+use native.Mathlib.Nat.{mul-zero, mul-pos, le-max-left, le-antisymm, le-of-eq}
+use native.Mathlib.Omega.{arith}
+use lib.Dec.{T, T-not, eqb, lit<}
+use lib.IntN.{pos}
+use lib.Ieee.{Float}
+use Rattle.exact.specs.Chains.{In}
+use Rattle.exact.specs.Near.{Near, base, next}
+use Rattle.exact.specs.Sums.{sum}
+use Rattle.exact.specs.Systems.{Equations, diag, mix, AllOut}
+use Rattle.exact.specs.Comparison.{Comparison}
+use Rattle.exact.proofs.Comparison.{comparison}
+use Rattle.exact.proofs.CommonDenominator.{product, product-pos, over-product}
+use Rattle.exact.proofs.Sums.{sum-add, zero-sum, sum-factor}
+use Rattle.definitions.specs.Numbers.{units}
+use Rattle.definitions.specs.Fractions.{Fraction, _≈_, whole, _*ᶠ_, total}
+use Rattle.definitions.specs.Matrix.{Stage, everyStage, Inverse}
+use Rattle.definitions.specs.Accuracy.{growth, Within}
+use Rattle.rounding.specs.Good.{Good, one·units}
+use Rattle.inverse.specs.Reduction.{plusPart, minusPart, Ratio, delta, RowForm, Columns, Regular, Apart, Reduction, SystemReduction}
+use Rattle.inverse.proofs.PartialSums.{delta-other, delta-times, sum-delta, sum-mix}
+use Rattle.rounding.proofs.Laws.{one-pos, good-finite}
+use Rattle.inverse.proofs.SignedFractions.{times, own-ratio, ratio-as, ratio-carry, ratios-agree, ratio-of-equal, same-ratio, ratio-scale, ratio-mul, plain-mul, ratio-total, plain-le, plain-sign, whole-ratio, max-one, value-ratio}
+use Rattle.exact.proofs.Near.{base-pos}
+
+-- The entry (i, j) of the identity.
+delta-whole : (i j : ℕ) → Ratio (cond (eqb i j) (whole 1) (whole 0)) (delta i j 1) 0 1
+delta-whole i j = go (eqb i j)
+  where
+    go : (b : Bool) → Ratio (cond b (whole 1) (whole 0)) (cond b 1 0) 0 1
+    go true = whole-ratio 1
+    go false = whole-ratio 0
+
+-- ---- a column of fractions and its image
+
+-- The terms of row i that p − q adds to its image; those of q − p it takes away.
+added : ℕ → (ℕ → ℕ) → (ℕ → ℕ → ℕ) → (ℕ → ℕ) → (ℕ → ℕ) → ℕ → ℕ
+added n a t p q i = a i * p i + sum (λ k. t i k * q k) 0 n
+
+added-terms :
+    (n : ℕ) (a : ℕ → ℕ) (t : ℕ → ℕ → ℕ) (p q : ℕ → ℕ) (i : ℕ) → i < n
+    → sum (λ k. delta i k (a i) * p k + t i k * q k) 0 n ≡ added n a t p q i
+unfolding added
+added-terms n a t p q i l =
+    sum-add (λ k. delta i k (a i) * p k) (λ k. t i k * q k) 0 n
+    ∙ ap (λ x. x + sum (λ k. t i k * q k) 0 n) (sum-delta i (a i) n p l)
+
+-- Row i of the matrix applied to a column.
+abbrev applied : ℕ → (ℕ → Bool) → (ℕ → ℕ → Fraction) → (ℕ → Fraction) → ℕ → Fraction
+applied n on A Y i = total on (λ k. A i k *ᶠ Y k) n
+
+-- (P − Q)/D at each stage that takes part.
+pub record SignedColumn (n : ℕ) (on : ℕ → Bool) (Y : ℕ → Fraction) (P Q : ℕ → ℕ) (D : ℕ) : Type 0 where
+  pub positive : 0 < D
+  pub ratio : (k : ℕ) → Stage n on k → Ratio (Y k) (P k) (Q k) D
+
+module _
+    (n : ℕ) (on : ℕ → Bool) (A : ℕ → ℕ → Fraction) (a : ℕ → ℕ) (t : ℕ → ℕ → ℕ) (c : ℕ → ℕ)
+    (rows : RowForm n A a t c) (apart : Apart n on t)
+  where
+    off-terms :
+        (P Q : ℕ → ℕ) (i k : ℕ) → Stage n on i → k < n → T (not (on k))
+        → delta i k (a i) * P k + t i k * Q k ≡ delta i k (a i) * Q k + t i k * P k
+    unfolding Apart
+    off-terms P Q i k s l o =
+        let ne : i ≢ k = λ e. T-not (on k) o (subst (λ j. T (on j)) e (s .part)) in
+        rw (delta-other i k (a i) ne, apart i k s l o) (omega arith)
+
+    module _ (Y : ℕ → Fraction) (P Q : ℕ → ℕ) (D : ℕ) (y : SignedColumn n on Y P Q D) (i j : ℕ) (s : Stage n on i) where
+      image : Ratio (applied n on A Y i) (added n a t P Q i) (added n a t Q P i) (c i * D)
+      image =
+          ratio-as
+          (ratio-total on (λ k. A i k *ᶠ Y k)
+          (λ k. delta i k (a i) * P k + t i k * Q k) (λ k. delta i k (a i) * Q k + t i k * P k) (c i * D) n
+          (λ k l o. ratio-mul (rows .entry i k (s .below) l) (y .ratio k (record { below = l; part = o })))
+          (λ k l o. off-terms P Q i k s l o))
+          (added-terms n a t P Q i (s .below)) (added-terms n a t Q P i (s .below)) refl
+
+      -- It is 1 where i = j, and 0 elsewhere, exactly when the whole numbers say so.
+      image-delta :
+          added n a t P Q i ≡ delta i j (c i) * D + added n a t Q P i → applied n on A Y i ≈ cond (eqb i j) (whole 1) (whole 0)
+      image-delta e =
+          let d = delta-times i j (c i) D in
+          same-ratio (lit< tt) (ratio-carry (mul-pos (rows .positive i (s .below)) (y .positive)) image (omega arith)) (delta-whole i j)
+
+      delta-image :
+          applied n on A Y i ≈ cond (eqb i j) (whole 1) (whole 0) → added n a t P Q i ≡ delta i j (c i) * D + added n a t Q P i
+      delta-image e =
+          let d = delta-times i j (c i) D in
+          omega (arith, ratios-agree image (ratio-of-equal (applied n on A Y i) e (delta-whole i j)))
+
+-- Any column of fractions, over the product of its denominators.
+any-column : (n : ℕ) (on : ℕ → Bool) (Y : ℕ → Fraction) → (P : ℕ → ℕ) × (Q : ℕ → ℕ) × (D : ℕ) × SignedColumn n on Y P Q D
+any-column n on Y =
+    let d : ℕ → ℕ = λ k. Y k .den in
+    let D = product d 0 n in (
+      λ k. plusPart (Y k .num) * (D / d k),
+      λ k. minusPart (Y k .num) * (D / d k),
+      D,
+      record {
+        positive = product-pos d 0 n (λ k l. Y k .positive);
+        ratio = λ k s. ratio-as (ratio-scale (D / d k) (own-ratio (Y k))) refl refl (over-product d 0 n k (omega arith));
+      },
+    )
+
+-- ---- growth, and one entry
+pub growth-ratio : (E : ℕ) → Ratio (growth E) (next ^ E) 0 (base ^ E)
+unfolding growth base next
+growth-ratio E = record { across = refl }
+
+-- z/d, for a positive d.
+abbrev pub quotient : ℕ → ℕ → Fraction
+quotient z d = record { num = pos z; den = max 1 d; positive = le-max-left 1 d }
+
+pub quotient-ratio : (z d : ℕ) → 0 < d → Ratio (quotient z d) z 0 d
+quotient-ratio z d l = record { across = rw (max-one d l) (omega arith) }
+
+pub entry-within : (E : ℕ) (x : Float) (z d : ℕ) → 0 < d → Good x → Near E (units x * d) (z * one·units) → Within E x (quotient z d)
+entry-within E x z d l g h =
+    let v = value-ratio g in
+    let r = quotient-ratio z d l in
+    record {
+      number = good-finite g;
+      x-sign = plain-sign one-pos v;
+      y-sign = plain-sign l r;
+      upper = plain-le one-pos (mul-pos l (base-pos E)) v (plain-mul r (growth-ratio E)) (omega (arith, h .upper));
+      lower = plain-le l (mul-pos one-pos (base-pos E)) r (plain-mul v (growth-ratio E)) (omega (arith, h .lower));
+    }
+
+-- ---- the rule
+-- One row of Z·P against Z·Q + D·z.
+compare-row :
+    (a P Q z e D Z SP SQ Sz : ℕ)
+    → a * P + SQ ≡ e * D + (a * Q + SP) → a * z ≡ e * Z + Sz
+    → a * (P * Z) + (SQ * Z + Sz * D) ≡ a * (Q * Z + z * D) + SP * Z
+compare-row a P Q z e D Z SP SQ Sz f g = omega (arith, times Z f, times D g)
+
+module _
+    (n : ℕ) (on : ℕ → Bool) (A : ℕ → ℕ → Fraction)
+    (a : ℕ → ℕ) (t : ℕ → ℕ → ℕ) (c : ℕ → ℕ) (Z : ℕ → ℕ) (z : ℕ → ℕ → ℕ)
+    (rows : RowForm n A a t c) (apart : Apart n on t) (columns : Columns n on a t c Z z)
+  where
+    X-column : (j : ℕ) → Stage n on j → SignedColumn n on (λ i. quotient (z j i) (Z j)) (z j) (λ i. 0) (Z j)
+    X-column j s =
+        let l = columns .positive j s in
+        record { positive = l; ratio = λ k o. quotient-ratio (z j k) (Z j) l }
+
+    pub X-inverse : Inverse n on A (λ i j. quotient (z j i) (Z j))
+    unfolding Inverse added
+    X-inverse i j s o =
+        image-delta n on A a t c rows apart (λ i. quotient (z j i) (Z j)) (z j) (λ i. 0) (Z j) (X-column j o) i j s
+        (omega (arith, columns .row i j s o, zero-sum (λ k. t i k * 0) 0 n (λ k h. mul-zero (t i k))))
+
+    -- Z·P = Z·Q + D·z for a column of another inverse, from regularity.
+    column-unique :
+        Regular n on a t → (Y : ℕ → Fraction) (P Q : ℕ → ℕ) (D j : ℕ) → SignedColumn n on Y P Q D → Stage n on j
+        → ((i : ℕ) → Stage n on i → applied n on A Y i ≈ cond (eqb i j) (whole 1) (whole 0))
+        → (i : ℕ) → Stage n on i → P i * Z j ≡ Q i * Z j + z j i * D
+    unfolding Regular added
+    column-unique regular Y P Q D j y o inverse =
+        regular (λ k. P k * Z j) (λ k. Q k * Z j + z j k * D)
+        (λ i s.
+        rw (sum-mix (t i) Q (z j) (Z j) D 0 n, sum-factor (t i) P (Z j) 0 n)
+        (compare-row (a i) (P i) (Q i) (z j i) (delta i j (c i)) D (Z j)
+        (sum (λ k. t i k * P k) 0 n) (sum (λ k. t i k * Q k) 0 n) (sum (λ k. t i k * z j k) 0 n)
+        (delta-image n on A a t c rows apart Y P Q D y i j s (inverse i s)) (columns .row i j s o)))
+
+    pub X-unique :
+        Regular n on a t → (Y : ℕ → ℕ → Fraction) → Inverse n on A Y
+        → (i j : ℕ) → Stage n on i → Stage n on j → quotient (z j i) (Z j) ≈ Y i j
+    unfolding Inverse
+    X-unique regular Y inverse i j s o =
+        let (P, Q, D, y) = any-column n on (λ k. Y k j) in
+        let l = columns .positive j o in
+        let e = column-unique regular (λ k. Y k j) P Q D j y o (λ i s. inverse i j s o) i s in
+        same-ratio (y .positive) (ratio-carry l (quotient-ratio (z j i) (Z j) l) (omega (arith, e))) (y .ratio i s)
+
+pub reduction : Reduction
+unfolding Reduction
+reduction n on E A x a t c Z z rows apart columns regular table =
+    record {
+      X = λ i j. quotient (z j i) (Z j);
+      inverse = X-inverse n on A a t c Z z rows apart columns;
+      unique = X-unique n on A a t c Z z rows apart columns regular;
+      within = λ i j s o. entry-within E (x i j) (z j i) (Z j) (columns .positive j o) (table .good i j s o) (table .near i j s o);
+    }
+
+-- ---- a system that gets out
+pub system-regular : (n : ℕ) (S : Equations) → AllOut 0 n S → Regular n everyStage (λ i. diag 0 n (S i)) (λ i. S i .size)
+unfolding Regular Comparison mix
+system-regular n S out p q same i s =
+    le-antisymm
+    (comparison 0 n S p q out (λ k l. inr (le-of-eq (same k (stage k l)))) i (omega arith))
+    (comparison 0 n S q p out (λ k l. inr (le-of-eq (sym (same k (stage k l))))) i (omega arith))
+  where
+    stage : (k : ℕ) → In 0 n k → Stage n everyStage k
+    stage k l = record { below = omega arith; part = tt }
+
+pub system-reduction : SystemReduction
+unfolding SystemReduction Reduction Apart diag mix
+system-reduction n E A x S c Z z rows out columns table =
+    reduction n everyStage E A x (λ i. diag 0 n (S i)) (λ i. S i .size) c Z z rows
+    (λ i j s l o. absurd o)
+    (record {
+      positive = λ j s. columns .positive j (s .below);
+      row = λ i j s o. columns .solves j (o .below) .row i (omega arith);
+    })
+    (system-regular n S out)
+    table

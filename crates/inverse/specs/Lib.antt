@@ -1,0 +1,5 @@
+pub mod Reduction
+pub mod ExactRatios
+pub mod ExactScaled
+pub mod RowForms
+pub mod ReducedReadings

@@ -1,0 +1,11 @@
+pub mod MarginsCounts
+pub mod MarginsEntries
+pub mod MarginsExact
+pub mod MarginsJoins
+pub mod MarginsKept
+pub mod MarginsPacked
+pub mod MarginsRange
+pub mod MarginsRatios
+pub mod MarginsStart
+pub mod MarginsSums
+pub mod MarginsAccuracy

@@ -1,0 +1,1 @@
+// How near the steps for margins come to the exact solution. No functions.

@@ -1,0 +1,148 @@
+-- What the questions leave: an accepted sheet has good sizes and good diagonals; under reading 1 it gets out, under reading 2 its
+-- diagonals are positive.
+use Prim.Native.Nat.{ℕ, zero, suc, _+_, _*_, _<_}
+use mathlib.Core.Bool.{Bool, true, false, not, cond}
+use mathlib.Core.List.{List}
+use mathlib.Core.Path.{_≡_, refl}
+use mathlib.Core.Logic.{_≢_}
+use native.Mathlib.Omega.{arith}
+use lib.Dec.{T, eqb, ltb, lt→ltb, ltb→lt}
+use lib.ListN.{length}
+use lib.Ieee.{Float, nan, inf, fin, binary64, fits, lt, le, eq}
+use borrow.Author.Tests.{eq-eqb, ne-eqb}
+use lib.Ieee.Fits.{and-r}
+use Rattle.exact.specs.Chains.{In}
+use Rattle.exact.proofs.Chains.{gets-out-mono}
+use Rattle.exact.proofs.Bools.{or-l}
+use Rattle.definitions.specs.Numbers.{0·0, finite, isZero, units}
+use Rattle.definitions.specs.Sheet.{place, size, diagonal, system}
+use Rattle.definitions.specs.Accuracy.{Binary64}
+use Rattle.definitions.specs.Questions.{Asked, pass, _then_, question1, question2, question3, question4, question5, question6, rightSign, question7, question8, moves, leaves, getsOut, question9, numberQuestions, tableInput, entryInput}
+use Rattle.rounding.specs.Good.{Good}
+use Rattle.rounding.proofs.Laws.{zero-is-good, units-zero, is-zero}
+use Rattle.rounding.proofs.Order.{lt-units}
+use Rattle.rounding.proofs.Reversed.{le-not-above}
+use Rattle.rounding.proofs.Zeros.{IsSize, plus-zero, size-of-negative, size-of-positive}
+use Rattle.steps.proofs.Trapped.{out-decided}
+use Rattle.steps.proofs.Sizes.{size-at, diagonal-at}
+use Rattle.steps.proofs.QuestionLaws.{then-first, then-next, rows-yes, stages-yes}
+use Rattle.rates_accuracy.specs.LeavingRatesAccuracy.{GoodSystem, StagesGetOut}
+
+-- The questions of the numbers come last, whichever service asks.
+after-four : (a b c d x : Asked) → (a then b then c then d then x) ≡ pass → x ≡ pass
+after-four a b c d x e =
+    then-next d x (then-next c (d then x) (then-next b (c then d then x) (then-next a (b then c then d then x) e)))
+
+pub table-numbers :
+    (reading n : ℕ) (sheet : List Float) (room : ℕ) → tableInput reading n sheet room ≡ pass → numberQuestions reading n sheet ≡ pass
+unfolding tableInput
+table-numbers reading n sheet room =
+    after-four (question1 reading) (question2 n) (question3 n (length sheet)) (question4 n room) (numberQuestions reading n sheet)
+
+pub entry-numbers :
+    (reading n : ℕ) (sheet : List Float) (i j : ℕ) → entryInput reading n sheet i j ≡ pass → numberQuestions reading n sheet ≡ pass
+unfolding entryInput
+entry-numbers reading n sheet i j =
+    after-four (question1 reading) (question2 n) (question3 n (length sheet)) (question5 n i j) (numberQuestions reading n sheet)
+
+less-or-equal : (x y : Float) → T (lt x y) → T (le x y)
+unfolding le
+less-or-equal x y = or-l (lt x y) (eq x y)
+
+positive-good : (x : Float) → T (fits binary64 x) → T (finite x) → T (lt 0·0 x) → Good x
+unfolding finite lt
+positive-good nan f t l = absurd t
+positive-good (inf s) f t l = absurd t
+positive-good (fin true m e) f t l = absurd l
+positive-good (fin false m e) f t l = record { plus = tt; held = f }
+
+not-zero-pos : (a : ℕ) → T (not (eqb a 0)) → 0 < a
+not-zero-pos zero t = absurd t
+not-zero-pos (suc a) t = omega arith
+
+-- Questions 6 and 7: an off-diagonal number that is zero or negative and a diagonal one that is zero or positive leave good numbers.
+module _ (reading n : ℕ) (sheet : List Float) (fit : Binary64 sheet) (e : numberQuestions reading n sheet ≡ pass) where
+  after-finite : question7 reading n sheet then question8 n sheet then question9 reading n sheet ≡ pass
+  unfolding numberQuestions
+  after-finite = then-next (question6 n sheet) (question7 reading n sheet then question8 n sheet then question9 reading n sheet) e
+
+  number-finite : (i j : ℕ) → i < n → j < n → T (finite (place n sheet i j))
+  unfolding numberQuestions question6
+  number-finite =
+      rows-yes (λ i j. finite (place n sheet i j)) 6 n
+      (then-first (question6 n sheet) (question7 reading n sheet then question8 n sheet then question9 reading n sheet) e)
+
+  number-sign : (i j : ℕ) → i < n → j < n → T (rightSign reading n sheet i j)
+  unfolding question7
+  number-sign =
+      rows-yes (rightSign reading n sheet) 7 n
+      (then-first (question7 reading n sheet) (question8 n sheet then question9 reading n sheet) after-finite)
+
+  last-question : question9 reading n sheet ≡ pass
+  last-question =
+      then-next (question8 n sheet) (question9 reading n sheet)
+      (then-next (question7 reading n sheet) (question8 n sheet then question9 reading n sheet) after-finite)
+
+  pub size-is : (i j : ℕ) → i < n → j < n → i ≢ j → IsSize (place n sheet i j) (size n sheet i j)
+  unfolding rightSign Binary64
+  size-is i j hi hj d =
+      rw (size-at n sheet i j hi hj d)
+      (size-of-negative (place n sheet i j) (fit (i * n + j)) (number-finite i j hi hj)
+      (le-not-above (place n sheet i j) 0·0 (rw (ne-eqb i j d) at (number-sign i j hi hj))))
+
+  diagonal-sign : (i : ℕ) → i < n → T (cond (eqb reading 1) (le 0·0 (place n sheet i i)) (lt 0·0 (place n sheet i i)))
+  unfolding rightSign
+  diagonal-sign i h = rw (eq-eqb i i refl) at (number-sign i i h h)
+
+  pub diagonal-is : (i : ℕ) → i < n → IsSize (place n sheet i i) (diagonal n sheet i)
+  unfolding Binary64
+  diagonal-is i h =
+      rw (diagonal-at n sheet i h)
+      (size-of-positive (place n sheet i i) (fit (i * n + i)) (number-finite i i h h)
+      (le-not-above 0·0 (place n sheet i i) (either (eqb reading 1) (diagonal-sign i h))))
+    where
+      either : (c : Bool) → T (cond c (le 0·0 (place n sheet i i)) (lt 0·0 (place n sheet i i))) → T (le 0·0 (place n sheet i i))
+      either true t = t
+      either false t = less-or-equal 0·0 (place n sheet i i) t
+
+  pub input-good : GoodSystem zero n (system n sheet)
+  unfolding system
+  input-good =
+      record {
+        size = λ i j hi hj d. size-is i j (omega arith) (omega arith) d .good;
+        exit = λ i h. diagonal-is i (omega arith) .good;
+      }
+
+-- Reading 2: positive diagonals.
+pub input-positive :
+    (n : ℕ) (sheet : List Float) → Binary64 sheet → numberQuestions 2 n sheet ≡ pass
+    → (i : ℕ) → i < n → 0 < units (diagonal n sheet i)
+unfolding Binary64
+input-positive n sheet fit e i h =
+    let x = place n sheet i i in
+    let l : T (lt 0·0 x) = diagonal-sign 2 n sheet fit e i h in
+    let g = positive-good x (fit (i * n + i)) (number-finite 2 n sheet fit e i i h h) l in
+    rw (diagonal-at n sheet i h, plus-zero g) (ltb→lt 0 (units x) (rw (lt-units zero-is-good g, units-zero) at l))
+
+-- Reading 1: chains of moves are chains of nonzero sizes, so the system gets out.
+module _ (n : ℕ) (sheet : List Float) (fit : Binary64 sheet) (e : numberQuestions 1 n sheet ≡ pass) where
+  move-kept : (i j : ℕ) → In zero n i → In zero n j → i ≢ j → T (moves n sheet i j) → T (ltb zero (units (size n sheet i j)))
+  unfolding moves
+  move-kept i j hi hj d t =
+      let x = size n sheet i j in
+      let g = size-is 1 n sheet fit e i j (omega arith) (omega arith) d .good in
+      lt→ltb zero (units x) (not-zero-pos (units x) (rw (is-zero g) at (and-r (not (eqb i j)) (not (isZero x)) t)))
+
+  exit-kept : (i : ℕ) → In zero n i → T (leaves n sheet i) → T (ltb zero (units (diagonal n sheet i)))
+  unfolding leaves
+  exit-kept i h t = rw (lt-units zero-is-good (diagonal-is 1 n sheet fit e i (omega arith) .good), units-zero) at t
+
+  pub input-out : StagesGetOut zero n (system n sheet)
+  unfolding system question9
+  input-out =
+      let asked = stages-yes (getsOut n sheet) 9 n (last-question 1 n sheet fit e) in
+      record {
+        out =
+            λ i l.
+            gets-out-mono move-kept exit-kept l (out-decided n sheet i (omega arith) .0 (asked i (omega arith)));
+      }

@@ -1,0 +1,67 @@
+-- No pivot is zero.
+use Prim.Native.Nat.{ℕ, zero, suc, _+_, _-_, _*_, _≤_, _<_}
+use mathlib.Core.Bool.{not}
+use mathlib.Core.Path.{_≡_, subst}
+use native.Mathlib.Nat.{le-refl}
+use native.Mathlib.Omega.{arith}
+use lib.Dec.{T, eqb→eq, T-not, not-T}
+use lib.Ieee.{Float}
+use Rattle.exact.specs.Elimination.{pivot, EliminationGetsOut}
+use Rattle.exact.proofs.Near.{near-sym, near-pos}
+use Rattle.exact.proofs.Elimination.{elimination-gets-out}
+use Rattle.definitions.specs.Numbers.{isZero, units}
+use Rattle.definitions.specs.LeavingRates.{System, downward, pivotInRange, p, sharedBefore}
+use Rattle.definitions.specs.Sheet.{system}
+use Rattle.rounding.specs.Good.{Good}
+use Rattle.rounding.proofs.Laws.{is-zero}
+use Rattle.rates_accuracy.specs.LeavingRatesAccuracy.{inUnits, GoodSystem, StagesGetOut}
+use Rattle.rates_accuracy.specs.Pivots.{NoPivotIsZeroInSystems, NoPivotIsZero}
+use Rattle.rates_accuracy.proofs.Input.{table-numbers, input-good, input-out}
+use Rattle.rates_accuracy.proofs.PivotErrors.{finite-in-range, pivot-good, pivot-near}
+use Rattle.rates_accuracy.proofs.LeavingRatesStages.{stages-good, stages-out}
+use Rattle.rounding.proofs.Finite.{zero-finite}
+
+positive-not-zero : {x : Float} → Good x → 0 < units x → T (not (isZero x))
+positive-not-zero {x} g h = not-T (isZero x) (λ t. absurd (let e = eqb→eq (units x) 0 (subst T (is-zero g) t) in omega arith))
+
+-- The pivots up to stage q, from the steps before q; stage k has m stages after it.
+module _
+    (r : ℕ) (start : System) (g : GoodSystem zero r start) (o : StagesGetOut zero r start)
+    (q : ℕ) (t : T (sharedBefore r (downward r start) q)) (k m : ℕ) (e : suc (k + m) ≡ r) (l : k ≤ q) where
+  exact-positive : 0 < pivot k m (inUnits (downward r start k) (λ i. zero))
+  unfolding EliminationGetsOut
+  exact-positive =
+      elimination-gets-out k m (inUnits (downward r start k) (λ i. zero)) (stages-out r start g q t o (λ i. zero) k m e l) .0
+
+  module _ (s : T (pivotInRange r (downward r start k) k)) where
+    pub good-pivot : Good (p r (downward r start) k)
+    good-pivot = pivot-good r (downward r start) k m e (stages-good r start g q t k m e l) s
+
+    pub positive-pivot : 0 < units (p r (downward r start) k)
+    positive-pivot =
+        near-pos (near-sym (pivot-near r (downward r start) k m e (stages-good r start g q t k m e l) s (λ i. zero))) exact-positive
+
+  -- A pivot that is zero would be finite, so that its additions are in range.
+  not-zero : T (not (isZero (p r (downward r start) k)))
+  not-zero = not-T (isZero (p r (downward r start) k)) none
+    where
+      none : T (isZero (p r (downward r start) k)) → ⊥
+      none z =
+          let s = finite-in-range r (downward r start) k (zero-finite (p r (downward r start) k) z) in
+          T-not (isZero (p r (downward r start) k)) (positive-not-zero (good-pivot s) (positive-pivot s)) z
+
+pub no-pivot-is-zero-in-systems : NoPivotIsZeroInSystems
+unfolding NoPivotIsZeroInSystems
+no-pivot-is-zero-in-systems r start g o k h t =
+    let e : suc (k + (r - suc k)) ≡ r = omega arith in
+    record {
+      not-zero = not-zero r start g o k t k (r - suc k) e (le-refl k);
+      good = good-pivot r start g o k t k (r - suc k) e (le-refl k);
+    }
+
+-- A sheet that passes the questions is such a system.
+pub no-pivot-is-zero : NoPivotIsZero
+unfolding NoPivotIsZero NoPivotIsZeroInSystems
+no-pivot-is-zero n sheet fit e =
+    let numbers = table-numbers 1 n sheet (n * n) e in
+    no-pivot-is-zero-in-systems n (system n sheet) (input-good 1 n sheet fit numbers) (input-out n sheet fit numbers)

@@ -1,0 +1,2 @@
+pub mod LeavingRatesAccuracy
+pub mod Pivots

@@ -1,0 +1,31 @@
+-- "After question 9 no pivot is zero, as long as every step before it is in range" (document 01, after the questions).
+use Prim.Native.Nat.{ℕ, zero, _*_, _<_}
+use mathlib.Core.Bool.{not}
+use mathlib.Core.List.{List}
+use mathlib.Core.Path.{_≡_}
+use lib.Dec.{T}
+use lib.Ieee.{Float}
+use Rattle.definitions.specs.Numbers.{isZero}
+use Rattle.definitions.specs.LeavingRates.{System, downward, pivotInRange, p, sharedBefore}
+use Rattle.definitions.specs.Sheet.{system}
+use Rattle.definitions.specs.Questions.{pass, tableInput}
+use Rattle.definitions.specs.Accuracy.{Binary64}
+use Rattle.rounding.specs.Good.{Good}
+use Rattle.rates_accuracy.specs.LeavingRatesAccuracy.{GoodSystem, StagesGetOut}
+
+-- The pivot of stage k is not zero, whether or not its own additions are in range; it is good where they are.
+pub record PivotHolds (r : ℕ) (at : ℕ → System) (k : ℕ) : Type 0 where
+  pub not-zero : T (not (isZero (p r at k)))
+  pub good : T (pivotInRange r (at k) k) → Good (p r at k)
+
+-- Theorem, for every system of good numbers that gets out: each pivot, from the steps before it alone.
+unfoldable pub NoPivotIsZeroInSystems : Type 0
+NoPivotIsZeroInSystems =
+    (r : ℕ) (start : System) → GoodSystem zero r start → StagesGetOut zero r start
+    → (k : ℕ) → k < r → T (sharedBefore r (downward r start) k) → PivotHolds r (downward r start) k
+
+-- Theorem, for every sheet that passes questions 1 to 9 under reading 1.
+unfoldable pub NoPivotIsZero : Type 0
+NoPivotIsZero =
+    (n : ℕ) (sheet : List Float) → Binary64 sheet → tableInput 1 n sheet (n * n) ≡ pass
+    → (k : ℕ) → k < n → T (sharedBefore n (downward n (system n sheet)) k) → PivotHolds n (downward n (system n sheet)) k

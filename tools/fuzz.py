@@ -1,0 +1,252 @@
+#!/usr/bin/env python3
+"""Random, damaged and edge calls of every function that the library for hosts exports, each held to the reference.
+
+    python3 tools/fuzz.py [--calls N] [--seed S] [--only NAME]
+
+makes N calls of each export (10,000 if not said) in this process and compares the number returned, every out
+place and every place of every lent area, before and after, bit for bit (`tools/hosts.py`).  The calls depend
+on the seed alone.  A line for each export says how many calls had which answer.  Exit status 1 at the first
+difference, which is printed with its call, or if a refusal of an export never came up in 10,000 calls or more.
+"""
+from __future__ import annotations
+
+import argparse
+import math
+import random
+import struct
+import sys
+import tempfile
+import time
+from collections import Counter
+from dataclasses import dataclass
+from typing import Callable, Sequence
+
+from hosts import PLACES, TEXT_BYTES, Calls, Difference, Library, declared
+import reference
+from reference import LARGEST, SMALLEST_NORMAL, bits_of
+
+HUGE = [2 ** 32, 2 ** 63, 2 ** 64 - 1]
+
+
+# ==== Sheets ====
+
+@dataclass
+class Sheet:
+    """A sheet as it is lent: the reading, the number of stages, and the numbers as 64-bit words."""
+    reading: int
+    n: int
+    words: list[int]
+
+
+def some_n(rng: random.Random, few: int = 9) -> int:
+    """Mostly few stages, which the reference is quick with; at times any number of them."""
+    return rng.randint(1, 32) if rng.random() < 0.005 else rng.randint(1, few)
+
+
+def edge_number(rng: random.Random) -> float:
+    """A size at or beside an end of the range, or where a product of two of them is."""
+    exponent = rng.choice([-1022, -1021, -600, -512, -511, -510, -100, 0, 0, 1, 100, 510, 511, 512, 1021, 1022, 1023])
+    digits = rng.choice([0, 1, 2 ** 51, 2 ** 52 - 2, 2 ** 52 - 1])
+    return math.ldexp(1.0 + digits * 2.0 ** -52, exponent)
+
+
+def edge_sheet(rng: random.Random, reading: int, n: int) -> list[float]:
+    """A sheet of such numbers, some of them zero; stages may be trapped or not kept."""
+    few = [edge_number(rng) for _ in range(rng.randint(1, 3))]
+
+    def number(i: int, j: int) -> float:
+        if rng.random() < 0.4 and (i != j or reading == reference.LEAVING_RATES):
+            return reference.random_zero(rng)
+        return rng.choice(few) if i == j else -rng.choice(few)
+
+    return [number(i, j) for i in range(n) for j in range(n)]
+
+
+def trapped_sheet(rng: random.Random, n: int) -> list[float]:
+    """Leaving rates on few stages or none, and few moves."""
+    density = rng.choice([0.1, 0.3, 0.6])
+
+    def number(i: int, j: int) -> float:
+        share = 0.3 if i == j else density
+        if rng.random() >= share:
+            return reference.random_zero(rng)
+        return rng.choice([1.0, 3.0]) if i == j else -rng.choice([1.0, 3.0])
+
+    return [number(i, j) for i in range(n) for j in range(n)]
+
+
+def some_numbers(rng: random.Random, reading: int, n: int) -> list[float]:
+    """The numbers of a sheet of some kind."""
+    kind = rng.random()
+    if kind < 0.3:
+        return edge_sheet(rng, reading, n)
+    if kind < 0.4 and reading == reference.LEAVING_RATES:
+        return trapped_sheet(rng, n)
+    numbers = reference.random_sheet(rng, reading, n, reference.random_style(rng, rng.choice([30, 300])))
+    if kind > 0.99 and n <= 4:
+        pair = reference.edge_pair(rng, reading, n, numbers)
+        return rng.choice(pair) if pair else numbers
+    return numbers
+
+
+def damaged(rng: random.Random, words: Sequence[int]) -> list[int]:
+    """One or two numbers spoilt: no number, a wrong sign, too small, or any bits."""
+    spoilt = list(words)
+    for _ in range(rng.randint(1, 2)):
+        at = rng.randrange(len(spoilt))
+        spoilt[at] = rng.choice([
+            0x7ff8000000000000, 0xfff0000000000001, 0x7ff0000000000000, 0xfff0000000000000, 1, 2 ** 63 + 1,
+            bits_of(SMALLEST_NORMAL) - 1, spoilt[at] ^ 2 ** 63, spoilt[at] ^ 1 << rng.randrange(64), 0, 2 ** 63,
+            bits_of(LARGEST), bits_of(-LARGEST), bits_of(-SMALLEST_NORMAL), rng.getrandbits(64)])
+    return spoilt
+
+
+def some_sheet(rng: random.Random) -> Sheet:
+    """A sheet as a caller may lend it: most are whole, some are damaged or not what the other arguments say."""
+    reading, n = rng.choice([1, 2]), some_n(rng)
+    words = [bits_of(x) for x in some_numbers(rng, reading, n)]
+    if rng.random() < 0.2:
+        words = damaged(rng, words)
+    if rng.random() < 0.03:
+        words = rng.choice([words[:-1], words + [0], [], words * 2])
+    if rng.random() < 0.03:
+        reading = rng.choice([0, 3, 3 - reading if reading < 3 else 0, *HUGE])
+    if rng.random() < 0.03:
+        n = rng.choice([0, 33, n - 1, n + 1, *HUGE])
+    return Sheet(reading, n, words)
+
+
+def some_room(rng: random.Random, n: int) -> int:
+    """The length of an area for n × n numbers: mostly enough."""
+    needed = min(n, 33) ** 2
+    kind = rng.random()
+    if kind < 0.06:
+        return rng.choice([0, max(0, needed - 1), rng.randrange(needed + 1)])
+    return needed + (0 if kind < 0.4 else rng.choice([1, 2, 7, 40]) if kind < 0.97 else PLACES)
+
+
+# ==== Files ====
+
+def some_file(rng: random.Random) -> bytes:
+    """A sheet file: of a sheet or of any words; most are whole."""
+    n = some_n(rng, 6)
+    if rng.random() < 0.5:
+        reading = rng.choice([1, 2])
+        words = [bits_of(x) for x in some_numbers(rng, reading, n)]
+    else:
+        reading = rng.choice([0, 1, 1, 2, 2, 2, 3]) if rng.random() < 0.3 else rng.choice([1, 2])
+        words = [rng.choice([rng.getrandbits(64), 0x7ff0000000000001, 0xfff8000000000000]) for _ in range(n * n)]
+    data = reference.make_file_words(reading, n, words)
+    return data if rng.random() < 0.35 else damaged_file(rng, data, n)
+
+
+def damaged_file(rng: random.Random, data: bytes, n: int) -> bytes:
+    """A file that is cut, longer, has a field changed, or its rows exchanged."""
+    row = 8 * n + 8
+    kind = rng.randrange(6)
+    if kind == 0:
+        return data[:rng.randrange(len(data))]
+    if kind == 1:
+        return data + bytes(rng.choice([1, 1, 2, 30, 9000]))
+    if kind == 2:
+        at = rng.randrange(len(data))
+        return data[:at] + bytes([data[at] ^ 1 << rng.randrange(8)]) + data[at + 1:]
+    if kind == 3:
+        first, second = (data[10 + row * k:10 + row * (k + 1)] for k in (rng.randrange(n), rng.randrange(n)))
+        return data[:10] + first + second + data[10 + 2 * row:]
+    start = rng.choice([0] + [10 + row * k for k in range(n)])
+    at, form = rng.choice([(0, "<I"), (4, "<H"), (6, "<H")] + ([(8, "<H")] if start == 0 else []))
+    old = struct.unpack_from(form, data, start + at)[0]
+    new = rng.choice([0, 1, 2, 3, 32, 33, old + 1, old - 1, old + 8, 8453, 8454, 2 ** 16 - 1, 2 ** 32 - 1])
+    changed = bytearray(data)
+    struct.pack_into(form, changed, start + at, new % (2 ** 32 if form == "<I" else 2 ** 16))
+    return bytes(changed) + bytes(rng.choice([0, 0, 9000]))
+
+
+# ==== The exports ====
+
+def call_table(calls: Calls, rng: random.Random) -> int:
+    """The whole table."""
+    sheet = some_sheet(rng)
+    return calls.table(sheet.reading, sheet.n, sheet.words, some_room(rng, sheet.n))[0]
+
+
+def call_entry(calls: Calls, rng: random.Random) -> int:
+    """One entry."""
+    sheet = some_sheet(rng)
+    i, j = (rng.choice([0, sheet.n + 1, *HUGE]) % 2 ** 64 if rng.random() < 0.03
+            else rng.randint(1, min(max(sheet.n, 1), 32)) for _ in range(2))
+    return calls.entry(sheet.reading, sheet.n, sheet.words, i, j)[0]
+
+
+def reader(name: str) -> Callable[[Calls, random.Random], int]:
+    """One of the two readers of files."""
+    def call(calls: Calls, rng: random.Random) -> int:
+        data = some_file(rng)
+        n = data[8] if len(data) > 8 else 1
+        return calls.read(name, data, some_room(rng, n))[0]
+    return call
+
+
+def call_report(calls: Calls, rng: random.Random) -> int:
+    """A report; the refusal that its text tells."""
+    room = TEXT_BYTES + rng.choice([0, 0, 1, 100]) if rng.random() < 0.98 else rng.choice([0, 1, TEXT_BYTES - 1])
+    text = calls.report(some_file(rng), room).split()
+    return int(text[1]) if text and text[0] == b"refused" else 0
+
+
+# Each export with the refusals that it can answer.
+EXPORTS: dict[str, tuple[Callable[[Calls, random.Random], int], set[int]]] = {
+    "yulanbowls_table": (call_table, {1, 2, 3, 4, 6, 7, 8, 9, 10}),
+    "yulanbowls_entry": (call_entry, {1, 2, 3, 5, 6, 7, 8, 9, 10}),
+    "yulanbowls_read_numbers": (reader("yulanbowls_read_numbers"), {4, 11, 12, 13, 14}),
+    "yulanbowls_read_words": (reader("yulanbowls_read_words"), {4, 11, 12, 13, 14}),
+    "yulanbowls_report": (call_report, {6, 7, 8, 9, 10, 11, 12, 13, 14}),
+}
+
+
+def fuzz(library: Library, name: str, count: int, seed: int) -> bool:
+    """So many calls of one export; whether all agreed and every refusal came up."""
+    call, refusals = EXPORTS[name]
+    seen: Counter[int] = Counter()
+    began = time.monotonic()
+    for at in range(count):
+        rng = random.Random(f"{seed} {name} {at}")
+        try:
+            seen[call(Calls(library, rng), rng)] += 1
+        except Difference as difference:
+            print(f"{name}: call {at} of seed {seed}: {difference}", flush=True)
+            return False
+    answers = ", ".join(f"{number} {seen[number]}" for number in sorted(seen) if number)
+    rate = count / (time.monotonic() - began)
+    print(f"{name}: {count} calls agree ({rate:.0f} a second); accepted {seen[0]}; refused: {answers}", flush=True)
+    missing = refusals - set(seen)
+    if missing and count >= 10000:
+        print(f"{name}: never refused with {sorted(missing)}", flush=True)
+    return not (missing and count >= 10000)
+
+
+def parsed(arguments: Sequence[str]) -> argparse.Namespace:
+    """The options."""
+    parser = argparse.ArgumentParser(prog="fuzz.py", description=__doc__.split("\n")[0])
+    parser.add_argument("--calls", type=int, default=10000, metavar="N", help="calls of each export")
+    parser.add_argument("--seed", type=int, default=1, metavar="S", help="another seed makes other calls")
+    parser.add_argument("--only", default=None, metavar="NAME", choices=sorted(EXPORTS), help="one export")
+    return parser.parse_args(arguments)
+
+
+def main(arguments: Sequence[str]) -> int:
+    """Fuzzes every export that the header declares; the exit status."""
+    options = parsed(arguments)
+    if set(EXPORTS) != set(declared()):
+        print(f"not in the header, or not fuzzed: {sorted(set(EXPORTS) ^ set(declared()))}")
+        return 1
+    with tempfile.TemporaryDirectory() as folder:
+        library = Library(folder)
+        names = [options.only] if options.only else list(EXPORTS)
+        done = [fuzz(library, name, options.calls, options.seed) for name in names]
+    return 0 if all(done) else 1
+
+
+if __name__ == "__main__":
+    sys.exit(main(sys.argv[1:]))
