@@ -14,7 +14,7 @@ use Rattle.definitions.specs.Accuracy.{Accurate}
 use Rattle.definitions.specs.Services.{tableAnswer, tableArea, entryAnswer}
 use Rattle.definitions.specs.File.{fileAnswer}
 use Rattle.definitions.specs.Dwell.{fileText}
-use Rattle.text.specs.Pasted.{AtStart}
+use Rattle.digits.specs.Pasted.{AtStart}
 use Rattle.hosts.specs.Told.{Told, HeadTold, allowanceOf, secondsOf}
 
 -- The whole table: the answer area before and after, the places for the allowance, the row and the column, and the number returned.

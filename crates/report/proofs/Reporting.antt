@@ -13,8 +13,8 @@ use Rattle.definitions.specs.Questions.{Asked, pass, refuse}
 use Rattle.definitions.specs.Services.{given, answer, tableAnswer}
 use Rattle.definitions.specs.File.{fileQuestions, fileAnswer, fileNumbers, fileNumberArea, fileLength, longestFile}
 use Rattle.definitions.specs.Dwell.{refusedLine, secondsLine, tableLines, tableText, fileText, dwellText}
-use Rattle.text.specs.Pasted.{AtStart}
-use Rattle.text.proofs.Pasting.{count-within}
+use Rattle.digits.specs.Pasted.{AtStart}
+use Rattle.digits.proofs.Pasting.{count-within}
 use Rattle.text.proofs.Answer.{given-text, refused-text}
 use Rattle.file.specs.declared.Loaded.{Loaded}
 use Rattle.file.specs.declared.Loaded.the-variants as file

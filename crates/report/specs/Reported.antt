@@ -5,7 +5,7 @@ use mathlib.Core.List.{List}
 use lib.ListN.{length, take}
 use Rattle.definitions.specs.File.{fileAnswer}
 use Rattle.definitions.specs.Dwell.{fileText}
-use Rattle.text.specs.Pasted.{AtStart}
+use Rattle.digits.specs.Pasted.{AtStart}
 
 -- The last two follow from the first; with them a caller lends the text alone.
 pub record Reported (bytes before after : List ℕ) (count : ℕ) : Type 0 where

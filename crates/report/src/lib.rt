@@ -3,7 +3,7 @@ ghost use Prim.Native.Nat.{_≤_};
 ghost use lib.ListN.{length};
 ghost use Rattle.definitions.specs.Services.{tableAnswer};
 ghost use Rattle.definitions.specs.Dwell.{tableText};
-ghost use Rattle.text.specs.Pasted.{AtStart};
+ghost use Rattle.digits.specs.Pasted.{AtStart};
 ghost use Rattle.report.specs.Reported.{Reported};
 use file::Loaded;
 use planner::Table;

@@ -12,7 +12,7 @@ use Rattle.definitions.specs.Questions.{Asked, pass, refuse, tableQuestions}
 use Rattle.definitions.specs.Services.{given, refused, answer, filled, tableAnswer, table, tableArea}
 use Rattle.definitions.specs.Dwell.{refusedLine, secondsLine, entryLine, rowLines, tableLines, tableText}
 use Rattle.steps.proofs.TableLaws.{place-of-rows}
-use Rattle.text.proofs.Lines.{row-none, row-grows, table-none, table-grows}
+use Rattle.lines.proofs.Lines.{row-none, row-grows, table-none, table-grows}
 
 -- Two tables that agree where the lines look have the same lines.
 module _ (x y : ℕ → ℕ → Float) where

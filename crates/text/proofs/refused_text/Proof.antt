@@ -4,10 +4,10 @@ use mathlib.Core.List.{List, _++_}
 use Prim.Native.Nat.{ℕ}
 use native.Mathlib.Omega.{arith}
 use Rattle.definitions.specs.Dwell.{text}
-use Rattle.text.specs.Pasted.{Room}
-use Rattle.text.proofs.Pasting.{room-2, room-3, room-4, written-4, written-at-start}
-use Rattle.text.proofs.Lines.{field, refused-pieces}
-use Rattle.text.proofs.Bounds.{refused-room}
+use Rattle.digits.specs.Pasted.{Room}
+use Rattle.digits.proofs.Pasting.{room-2, room-3, room-4, written-4, written-at-start}
+use Rattle.lines.proofs.Lines.{field, refused-pieces}
+use Rattle.text.proofs.TextLengths.{refused-room}
 use Rattle.text.proofs.refused_text.Statement.{statement}
 use Rattle.text.proofs.refused_text.Tie as tie
 

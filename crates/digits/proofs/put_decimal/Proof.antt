@@ -1,4 +1,4 @@
--- `text::put_decimal` meets its contract. The loop's invariant: pasting the digits of the rest gives what pasting all of them gave at the start.
+-- `digits::put_decimal` meets its contract. The loop's invariant: pasting the digits of the rest gives what pasting all of them gave at the start.
 -- Assumes nothing.
 use borrow.Author.Needs.{needs}
 use mathlib.Core.Path.{_≡_, refl, sym, _∙_}
@@ -7,11 +7,11 @@ use native.Mathlib.Omega.{arith}
 use mathlib.Core.List.{[]}
 use lib.ListN.{length, length-set}
 use Rattle.definitions.specs.Dwell.{decimal}
-use Rattle.text.specs.Pasted.{pasted}
-use Rattle.text.proofs.Pasting.{pasted-last, pasted-nothing}
-use Rattle.text.proofs.Digits.{decimal-one, decimal-more, decimal-some, length-decimal-one, length-decimal-more}
-use Rattle.text.proofs.put_decimal.Statement.{statement}
-use Rattle.text.proofs.put_decimal.Tie as tie
+use Rattle.digits.specs.Pasted.{pasted}
+use Rattle.digits.proofs.Pasting.{pasted-last, pasted-nothing}
+use Rattle.digits.proofs.Digits.{decimal-one, decimal-more, decimal-some, length-decimal-one, length-decimal-more}
+use Rattle.digits.proofs.put_decimal.Statement.{statement}
+use Rattle.digits.proofs.put_decimal.Tie as tie
 
 abbrev Inv-loop : tie.InvT-loop
 Inv-loop value at out₀ end last₀ rest₀ out last rest =

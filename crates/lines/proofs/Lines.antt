@@ -6,8 +6,8 @@ use native.Mathlib.Nat.{suc-mul, mul-le-mul-right}
 use native.Mathlib.Numerals.{add-one}
 use native.Mathlib.Omega.{arith}
 use lib.Ieee.{Float, binary64, toBits}
-use Rattle.text.specs.Pasted.{Written}
-use Rattle.text.proofs.Pasting.{written-nothing}
+use Rattle.digits.specs.Pasted.{Written}
+use Rattle.digits.proofs.Pasting.{written-nothing}
 use Rattle.definitions.specs.Dwell.{text, decimal, hexadecimal, refusedLine, secondsLine, entryLine, rowLines, tableLines}
 
 -- A decimal number and the byte that ends its field.

@@ -1,8 +1,8 @@
--- `text::put_byte` meets its contract: one store pastes one byte. Assumes nothing.
+-- `digits::put_byte` meets its contract: one store pastes one byte. Assumes nothing.
 use borrow.Author.Needs.{needs}
-use Rattle.text.proofs.Pasting.{pasted-byte}
-use Rattle.text.proofs.put_byte.Statement.{statement}
-use Rattle.text.proofs.put_byte.Tie as tie
+use Rattle.digits.proofs.Pasting.{pasted-byte}
+use Rattle.digits.proofs.put_byte.Statement.{statement}
+use Rattle.digits.proofs.put_byte.Tie as tie
 
 returns : tie.Need-returns
 returns c = record { bytes = pasted-byte _ _ _ (search needs); place = search needs }

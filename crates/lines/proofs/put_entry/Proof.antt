@@ -1,13 +1,13 @@
--- `text::put_entry` meets its contract: four writers in a row write the pieces of the line. Assumes nothing.
+-- `lines::put_entry` meets its contract: four writers in a row write the pieces of the line. Assumes nothing.
 use borrow.Author.Needs.{needs}
 use mathlib.Core.List.{List, [], _∷_, _++_}
 use Prim.Native.Nat.{ℕ}
 use Rattle.definitions.specs.Dwell.{hexadecimal}
-use Rattle.text.specs.Pasted.{Room}
-use Rattle.text.proofs.Pasting.{room-1, room-2, room-3, room-4, written-4}
-use Rattle.text.proofs.Lines.{field, entry-pieces}
-use Rattle.text.proofs.put_entry.Statement.{statement}
-use Rattle.text.proofs.put_entry.Tie as tie
+use Rattle.digits.specs.Pasted.{Room}
+use Rattle.digits.proofs.Pasting.{room-1, room-2, room-3, room-4, written-4}
+use Rattle.lines.proofs.Lines.{field, entry-pieces}
+use Rattle.lines.proofs.put_entry.Statement.{statement}
+use Rattle.lines.proofs.put_entry.Tie as tie
 
 -- The pieces, once the number's word is known, and room for them.
 abbrev start : tie.After-to-word → tie.Start

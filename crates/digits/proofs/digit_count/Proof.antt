@@ -1,12 +1,12 @@
--- `text::digit_count` meets its contract. The loop's invariant: the digits counted and those of the rest are one more than all digits. Assumes nothing.
+-- `digits::digit_count` meets its contract. The loop's invariant: the digits counted and those of the rest are one more than all digits. Assumes nothing.
 use mathlib.Core.Path.{_≡_}
 use Prim.Native.Nat.{_+_, _≤_}
 use native.Mathlib.Omega.{arith}
 use lib.ListN.{length}
 use Rattle.definitions.specs.Dwell.{decimal}
-use Rattle.text.proofs.Digits.{decimal-at-most, length-decimal-one, length-decimal-more}
-use Rattle.text.proofs.digit_count.Statement.{statement}
-use Rattle.text.proofs.digit_count.Tie as tie
+use Rattle.digits.proofs.Digits.{decimal-at-most, length-decimal-one, length-decimal-more}
+use Rattle.digits.proofs.digit_count.Statement.{statement}
+use Rattle.digits.proofs.digit_count.Tie as tie
 
 abbrev Inv-loop : tie.InvT-loop
 Inv-loop value count₀ rest₀ count rest = (rest ≤ value) × (length (decimal rest) + count ≡ length (decimal value) + 1)

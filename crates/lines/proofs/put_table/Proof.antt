@@ -1,4 +1,4 @@
--- `text::put_table` meets its contract. The loop's invariant: the first i rows are written. Assumes nothing.
+-- `lines::put_table` meets its contract. The loop's invariant: the first i rows are written. Assumes nothing.
 use mathlib.Core.Path.{_≡_}
 use Prim.Native.Nat.{ℕ, _+_, _-_, _≤_, _<_}
 use native.Mathlib.Omega.{arith}
@@ -6,12 +6,12 @@ use mathlib.Core.List.{List}
 use lib.Ieee.{Float}
 use Rattle.definitions.specs.Sheet.{place}
 use Rattle.definitions.specs.Dwell.{rowLines, tableLines}
-use Rattle.text.specs.Pasted.{Room, Written}
-use Rattle.text.proofs.Pasting.{length-written}
-use Rattle.text.proofs.Growing.{Turn, turn}
-use Rattle.text.proofs.Lines.{table-begun, table-grows}
-use Rattle.text.proofs.put_table.Statement.{statement}
-use Rattle.text.proofs.put_table.Tie as tie
+use Rattle.digits.specs.Pasted.{Room, Written}
+use Rattle.digits.proofs.Pasting.{length-written}
+use Rattle.digits.proofs.Growing.{Turn, turn}
+use Rattle.lines.proofs.Lines.{table-begun, table-grows}
+use Rattle.lines.proofs.put_table.Statement.{statement}
+use Rattle.lines.proofs.put_table.Tie as tie
 
 -- A turn writes one row more of the table.
 row-turn : (x : ℕ → ℕ → Float) (n : ℕ) {at i next : ℕ} {out after : List ℕ} → Room (tableLines x n n) at out → i < n → Written (tableLines x n i) at out after next

@@ -1,10 +1,10 @@
--- `text::put_field` meets its contract: two writers in a row. Assumes nothing.
+-- `digits::put_field` meets its contract: two writers in a row. Assumes nothing.
 use borrow.Author.Needs.{needs}
 use mathlib.Core.List.{[], _∷_}
 use Rattle.definitions.specs.Dwell.{decimal}
-use Rattle.text.proofs.Pasting.{room-first, room-next, written-next}
-use Rattle.text.proofs.put_field.Statement.{statement}
-use Rattle.text.proofs.put_field.Tie as tie
+use Rattle.digits.proofs.Pasting.{room-first, room-next, written-next}
+use Rattle.digits.proofs.put_field.Statement.{statement}
+use Rattle.digits.proofs.put_field.Tie as tie
 
 put-decimal-requires : tie.Need-put-decimal-requires
 put-decimal-requires c κs =

@@ -1,15 +1,15 @@
--- `text::put_hexadecimal` meets its contract. The loop's invariant: pasting the digits that are left gives what pasting all of them gave at the start.
+-- `digits::put_hexadecimal` meets its contract. The loop's invariant: pasting the digits that are left gives what pasting all of them gave at the start.
 -- Assumes nothing.
 use mathlib.Core.Path.{_≡_, refl, _∙_}
 use Prim.Native.Nat.{_+_, _-_, _/_, _≤_}
 use native.Mathlib.Omega.{arith}
 use lib.ListN.{length, length-set}
 use Rattle.definitions.specs.Dwell.{hexadecimal}
-use Rattle.text.specs.Pasted.{pasted}
-use Rattle.text.proofs.Pasting.{pasted-last, pasted-nothing}
-use Rattle.text.proofs.Digits.{hexadecimal-none, hexadecimal-more, length-hexadecimal}
-use Rattle.text.proofs.put_hexadecimal.Statement.{statement}
-use Rattle.text.proofs.put_hexadecimal.Tie as tie
+use Rattle.digits.specs.Pasted.{pasted}
+use Rattle.digits.proofs.Pasting.{pasted-last, pasted-nothing}
+use Rattle.digits.proofs.Digits.{hexadecimal-none, hexadecimal-more, length-hexadecimal}
+use Rattle.digits.proofs.put_hexadecimal.Statement.{statement}
+use Rattle.digits.proofs.put_hexadecimal.Tie as tie
 
 abbrev Inv-loop : tie.InvT-loop
 Inv-loop word at out₀ left₀ rest₀ out left rest =

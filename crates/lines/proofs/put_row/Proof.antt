@@ -1,4 +1,4 @@
--- `text::put_row` meets its contract. The loop's invariant: the lines of the first j entries are written. Assumes nothing.
+-- `lines::put_row` meets its contract. The loop's invariant: the lines of the first j entries are written. Assumes nothing.
 use mathlib.Core.Path.{_≡_}
 use Prim.Native.Nat.{ℕ, _+_, _-_, _*_, _≤_, _<_}
 use native.Mathlib.Omega.{arith}
@@ -7,12 +7,12 @@ use lib.ListN.{length}
 use lib.Ieee.{Float}
 use Rattle.definitions.specs.Sheet.{place}
 use Rattle.definitions.specs.Dwell.{rowLines, entryLine}
-use Rattle.text.specs.Pasted.{Room, Written}
-use Rattle.text.proofs.Pasting.{length-written}
-use Rattle.text.proofs.Growing.{Turn, turn}
-use Rattle.text.proofs.Lines.{row-begun, row-grows, row-ends}
-use Rattle.text.proofs.put_row.Statement.{statement}
-use Rattle.text.proofs.put_row.Tie as tie
+use Rattle.digits.specs.Pasted.{Room, Written}
+use Rattle.digits.proofs.Pasting.{length-written}
+use Rattle.digits.proofs.Growing.{Turn, turn}
+use Rattle.lines.proofs.Lines.{row-begun, row-grows, row-ends}
+use Rattle.lines.proofs.put_row.Statement.{statement}
+use Rattle.lines.proofs.put_row.Tie as tie
 
 -- A turn writes one line more of the row.
 entry-turn : (x : ℕ → ℕ → Float) (i n : ℕ) {at j next : ℕ} {out after : List ℕ} → Room (rowLines x i n) at out → j < n → Written (rowLines x i j) at out after next

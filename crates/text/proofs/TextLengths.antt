@@ -6,9 +6,9 @@ use mathlib.Core.List.{List, _++_}
 use lib.ListN.{length, length-append}
 use lib.Ieee.{Float, binary64, toBits}
 use Rattle.definitions.specs.Dwell.{text, refusedLine, secondsLine, entryLine, rowLines, tableLines}
-use Rattle.text.specs.Pasted.{Room}
-use Rattle.text.proofs.Digits.{decimal-at-most, length-hexadecimal}
-use Rattle.text.proofs.Lines.{refused-pieces, seconds-pieces, entry-pieces, row-none, row-grows, table-none, table-grows}
+use Rattle.digits.specs.Pasted.{Room}
+use Rattle.digits.proofs.Digits.{decimal-at-most, length-hexadecimal}
+use Rattle.lines.proofs.Lines.{refused-pieces, seconds-pieces, entry-pieces, row-none, row-grows, table-none, table-grows}
 
 pub length-refused : (number row column : ℕ) → number < 10 ^ 20 → row < 10 ^ 20 → column < 10 ^ 20 → length (refusedLine number row column) ≤ 71
 unfolding text
