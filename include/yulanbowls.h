@@ -11,11 +11,11 @@
  *   Stages, rows and columns are numbered from 1.
  *
  * The answer of a call
- *   Every call but yulanbowls_report returns 0 if it is accepted, and else the number of its refusal. Every
- *   out place is written by every call: `row` and `column` are those of the refusal, 0 and 0 where it has
- *   none and where the call is accepted; the others are 0 where the call is refused. A refused call changes
- *   no place of a lent area. The reasons are looked for in the order of their numbers, each in the whole sheet
- *   before the next, but in a file 11 to 13 record by record, then 14 and then 4. The first decides.
+ *   Every call but yulanbowls_report returns 0 if it is accepted, and else the number of its refusal. `*row`
+ *   and `*column` are then those of the refusal, 0 and 0 where it has none and where the call is accepted. A
+ *   refused call changes nothing else: every other out place and every place of a lent area keep what they
+ *   held. The reasons are looked for in the order of their numbers, each in the whole sheet before the next,
+ *   but in a file 11 to 13 record by record, then 14 and then 4. The first decides.
  *
  *   number  the call is refused because                                          row, column
  *        1  the reading is neither 1 nor 2                                        0, 0

@@ -82,7 +82,15 @@ fn nth(first: usize, falling: bool, q: usize) -> usize
 
 // Adds `count` rows of b, from row `first` on, rising or falling, to eight numbers of row i from column
 // j on, with the multipliers of row i in t.
-pub fn add_rows(i: usize, j: usize, first: usize, count: usize, falling: bool, t: &[f64; 1024], b: &mut [f64; 1024])
+pub fn add_rows(
+    i: usize,
+    j: usize,
+    first: usize,
+    count: usize,
+    falling: bool,
+    t: &[f64; 1024],
+    b: &mut [f64; 1024],
+)
     requires { ⌜ (i < 32) × (j + 8 ≤ 32) × (first < 32) × Reaches first count falling × IsTable (now t) × IsTable (now b) ⌝ }
     ensures { λ _. let f = table (now (b .entry)) in ⌜ Holds (now (b .exit)) (span i j (j + 8) (staged (nth first falling) (table (now (t .entry))) f i count) f) ⌝ }
 {

@@ -1,11 +1,12 @@
 -- Laws of tests. The kit has more: `lib.Ieee.Fits` and-i, and-l and and-r (a conjunction from its parts, and each part from it),
 -- `lib.Ieee.Bits` is-true and is-false, `mathlib.Core.Bool` the equations with true and false.
-use mathlib.Core.Path.{_≡_, refl}
+use mathlib.Core.Path.{_≡_, refl, sym, _∙_}
 use mathlib.Core.Logic.{_⊎_, inl, inr}
-use mathlib.Core.Bool.{Bool, true, false, not, _&&_, _||_}
+use mathlib.Core.Bool.{Bool, true, false, not, _&&_, _||_, false≢true}
 use Prim.Native.Nat.{ℕ}
 use native.Mathlib.Omega.{arith}
 use lib.Dec.{T}
+use borrow.Author.Tests.{not-true, not-false}
 use Rattle.exact.proofs.Cases.{by-bool}
 
 -- ---- truth and value
@@ -22,6 +23,22 @@ same-truth true true f g = refl
 same-truth true false f g = absurd (f tt)
 same-truth false true f g = absurd (g tt)
 same-truth false false f g = refl
+
+-- What a test `if !t` says of the question that t answers.
+pub denied : (t u : Bool) → t ≡ u → not t ≡ true → u ≡ false
+denied t u e h = sym e ∙ not-true t h
+
+pub granted : (t u : Bool) → t ≡ u → not t ≡ false → u ≡ true
+granted t u e h = sym e ∙ not-false t h
+
+-- ---- a and b
+pub and-first : (a b : Bool) → a && b ≡ true → a ≡ true
+and-first true b e = refl
+and-first false b e = e
+
+pub and-second : (a b : Bool) → a && b ≡ true → b ≡ true
+and-second true b e = e
+and-second false b e = absurd (false≢true e)
 
 -- ---- a or b
 pub or-l : (a b : Bool) → T a → T (a || b)

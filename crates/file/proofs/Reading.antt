@@ -5,10 +5,11 @@ use mathlib.Core.Path.{_≡_, refl, sym, ap, _∙_}
 use Rattle.definitions.specs.Questions.{Asked, pass, refuse}
 use Rattle.definitions.specs.Services.{answer, given, refused, filled}
 use Rattle.definitions.specs.File.{Head, headReading, headStages, fileQuestions, fileAnswer}
-use Rattle.file.specs.declared.Loaded.{Loaded}
-use Rattle.file.specs.declared.Loaded.the-variants.{Sheet, Refused}
-use Rattle.file.specs.Loaded.{loaded, SheetFile}
-use Rattle.file.proofs.Words.{room-held}
+use Rattle.answers.specs.declared.Loaded.{Loaded}
+use Rattle.answers.specs.declared.Loaded.the-variants.{Sheet, Refused}
+use Rattle.answers.specs.Answers.{headGiven}
+use Rattle.file.specs.SheetFile.{SheetFile}
+use Rattle.file.proofs.FileWords.{room-held}
 
 given-passes : (asked : Asked) (head due : Head) → given head ≡ answer asked due → asked ≡ pass
 given-passes pass head due e = refl
@@ -22,7 +23,7 @@ refused-keeps : {A : Type 0} (asked : Asked) (due : Head) (number row column : �
 refused-keeps pass due number row column new area e = cc
 refused-keeps (refuse a b c) due number row column new area e = refl
 
-module _ (bytes : List ℕ) (room : ℕ) {r : Loaded} (answered : loaded r ≡ fileAnswer bytes room) where
+module _ (bytes : List ℕ) (room : ℕ) {r : Loaded} (answered : headGiven r ≡ fileAnswer bytes room) where
   module _ {reading n : ℕ} (sheet : r ≡ Sheet reading n) where
     head : Head
     head = record { reading = reading; n = n }
@@ -31,7 +32,7 @@ module _ (bytes : List ℕ) (room : ℕ) {r : Loaded} (answered : loaded r ≡ f
     head-due = record { reading = headReading bytes; n = headStages bytes }
 
     due : given head ≡ answer (fileQuestions bytes room) head-due
-    unfolding loaded fileAnswer head head-due
+    unfolding fileAnswer head head-due
     due = rw sheet at answered
 
     passes : fileQuestions bytes room ≡ pass
@@ -47,10 +48,10 @@ module _ (bytes : List ℕ) (room : ℕ) {r : Loaded} (answered : loaded r ≡ f
     to-fill = (sheet-file, room-held bytes n sheet-file)
 
     -- The two promises, where the new numbers were written over the area's start.
-    pub sheet-read : {A : Type 0} (new area : List A) {exit : List A} → exit ≡ filled pass new area → (loaded (Sheet reading n) ≡ fileAnswer bytes room) × (exit ≡ filled (fileQuestions bytes room) new area)
-    sheet-read new area e = (ap loaded (sym sheet) ∙ answered, rw passes e)
+    pub sheet-read : {A : Type 0} (new area : List A) {exit : List A} → exit ≡ filled pass new area → (headGiven (Sheet reading n) ≡ fileAnswer bytes room) × (exit ≡ filled (fileQuestions bytes room) new area)
+    sheet-read new area e = (ap headGiven (sym sheet) ∙ answered, rw passes e)
 
   -- The two promises, where nothing was written.
-  pub refusal-read : {A : Type 0} (new area : List A) {number row column : ℕ} → r ≡ Refused number row column → (loaded r ≡ fileAnswer bytes room) × (area ≡ filled (fileQuestions bytes room) new area)
-  unfolding loaded fileAnswer
+  pub refusal-read : {A : Type 0} (new area : List A) {number row column : ℕ} → r ≡ Refused number row column → (headGiven r ≡ fileAnswer bytes room) × (area ≡ filled (fileQuestions bytes room) new area)
+  unfolding fileAnswer
   refusal-read new area e = (answered, refused-keeps (fileQuestions bytes room) _ _ _ _ new area (rw e at answered))

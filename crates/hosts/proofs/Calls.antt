@@ -1,75 +1,65 @@
--- What each call promises, from the promise of the service behind it: where it is accepted, and where it is refused.
-use mathlib.Core.Path.{_≡_, refl, ap}
+-- What each call promises, from the promise of the service behind it and its answer as plain numbers. An out place holds `cond
+-- accepted value before` afterwards: it is written where the call is accepted.
+use mathlib.Core.Path.{_≡_, refl, sym, _∙_}
+use mathlib.Core.Bool.{Bool, cond}
 use mathlib.Core.List.{List}
 use Prim.Native.Nat.{ℕ, _≤_, _<_}
 use native.Mathlib.Omega.{arith}
 use lib.ListN.{length}
 use lib.Ieee.{Float}
 use borrow.Author.Tests.{le-leb, lt-leb}
-use Rattle.definitions.specs.Numbers.{0·0}
 use Rattle.definitions.specs.File.{Head, fileAnswer}
-use Rattle.definitions.specs.Services.{Answer}
-use Rattle.planner.specs.declared.Table.{Table}
-use Rattle.planner.specs.declared.Table.the-variants as table
-use Rattle.planner.specs.declared.Entry.{Entry}
-use Rattle.planner.specs.declared.Entry.the-variants as entry
-use Rattle.planner.specs.Answers.{tableGiven, entryGiven}
+use Rattle.definitions.specs.Services.{Answer, tableAnswer, entryAnswer}
+use Rattle.definitions.specs.Dwell.{fileText}
+use Rattle.answers.specs.declared.Table.{Table}
+use Rattle.answers.specs.declared.Entry.{Entry}
+use Rattle.answers.specs.Answers.{tableGiven, entryGiven}
 use Rattle.planner.specs.Promises.{TableDone, EntryDone}
-use Rattle.file.specs.declared.Loaded.{Loaded}
-use Rattle.file.specs.declared.Loaded.the-variants.{Sheet, Refused}
-use Rattle.file.specs.Loaded.{loaded}
+use Rattle.out_places.specs.OutPlaces.{Refusal, ValueOut, HeadOut}
 use Rattle.report.specs.Reported.{Reported}
-use Rattle.hosts.specs.Told.{HeadTold, allowanceOf, secondsOf, readingOf, stagesOf}
-use Rattle.hosts.specs.Promises.{TableCall, EntryCall, FileCall, ReportCall, reportText}
-use Rattle.hosts.proofs.Telling.{known, told-given, told-refused}
+use Rattle.hosts.specs.HostCalls.{TableCall, EntryCall, FileCall, ReportCall, reportText}
 
-module _ {reading n : ℕ} {sheet before after : List Float} {r : Table} (done : TableDone reading n sheet before after r) where
-  pub table-given : {allowed : ℕ} → r ≡ table.Allowed allowed → TableCall reading n sheet before after allowed 0 0 0
-  unfolding allowanceOf
-  table-given is =
-      let e = known tableGiven (done .answered) is in
-      record { told = told-given e; allows = ap allowanceOf e; area = done .area; accurate = done .accurate }
+module _ {number row column : ℕ} {accepted : Bool} where
+  pub table-call : {reading n : ℕ} {sheet before after : List Float} {r : Table} {allowed : ℕ} → TableDone reading n sheet before after r
+      → Refusal (tableGiven r) number row column × ValueOut (tableGiven r) accepted allowed
+      → (was : ℕ) {is : ℕ} → is ≡ cond accepted allowed was → TableCall reading n sheet before after was is row column number
+  table-call done out was e =
+      record {
+        told = rw (done .answered) at (out .0);
+        allows = e ∙ rw (done .answered) at (out .1 .place was);
+        area = done .area;
+        accurate = done .accurate;
+      }
 
-  pub table-refused : {number row column : ℕ} → r ≡ table.Refused number row column → TableCall reading n sheet before after 0 row column number
-  unfolding allowanceOf
-  table-refused is =
-      let e = known tableGiven (done .answered) is in
-      record { told = told-refused e; allows = ap allowanceOf e; area = done .area; accurate = done .accurate }
+  pub entry-call : {reading n : ℕ} {sheet : List Float} {i j : ℕ} {r : Entry} {seconds : Float} → EntryDone reading n sheet i j r
+      → Refusal (entryGiven r) number row column × ValueOut (entryGiven r) accepted seconds
+      → (was : Float) {is : Float} → is ≡ cond accepted seconds was → EntryCall reading n sheet i j was is row column number
+  entry-call done out was e =
+      record {
+        told = rw (done .answered) at (out .0);
+        gives = e ∙ rw (done .answered) at (out .1 .place was);
+        accurate = done .accurate;
+      }
 
-module _ {reading n : ℕ} {sheet : List Float} {i j : ℕ} {r : Entry} (done : EntryDone reading n sheet i j r) where
-  pub entry-given : {seconds : Float} → r ≡ entry.Seconds seconds → EntryCall reading n sheet i j seconds 0 0 0
-  unfolding secondsOf
-  entry-given is =
-      let e = known entryGiven (done .answered) is in
-      record { told = told-given e; gives = ap secondsOf e; accurate = done .accurate }
-
-  pub entry-refused : {number row column : ℕ} → r ≡ entry.Refused number row column → EntryCall reading n sheet i j 0·0 row column number
-  unfolding secondsOf
-  entry-refused is =
-      let e = known entryGiven (done .answered) is in
-      record { told = told-refused e; gives = ap secondsOf e; accurate = done .accurate }
-
-pub head-given : {r : Loaded} {reading n : ℕ} → r ≡ Sheet reading n → HeadTold (loaded r) reading n 0 0 0
-unfolding loaded readingOf stagesOf
-head-given is =
-    let e = known loaded refl is in
-    record { told = told-given e; reads = ap readingOf e; stages = ap stagesOf e }
-
-pub head-refused : {r : Loaded} {number row column : ℕ} → r ≡ Refused number row column → HeadTold (loaded r) 0 0 row column number
-unfolding loaded readingOf stagesOf
-head-refused is =
-    let e = known loaded refl is in
-    record { told = told-refused e; reads = ap readingOf e; stages = ap stagesOf e }
-
-module _ {A : Type 0} (filledArea : List ℕ → List A → List A) (bytes : List ℕ) (before : List A) where
-  pub file-call : {after : List A} {a : Answer Head} {reading n row column returned : ℕ} → a ≡ fileAnswer bytes (length before) → after ≡ filledArea bytes before → HeadTold a reading n row column returned → FileCall filledArea bytes before after reading n row column returned
-  file-call answered area head = record { told = rw answered at head; area = area }
+  pub file-call : {A : Type 0} (filledArea : List ℕ → List A → List A) (bytes : List ℕ) (before : List A) {after : List A} {a : Answer Head} {reading n : ℕ}
+      → a ≡ fileAnswer bytes (length before) → after ≡ filledArea bytes before
+      → Refusal a number row column × HeadOut a accepted reading n
+      → (was was' : ℕ) {is is' : ℕ} → is ≡ cond accepted reading was → is' ≡ cond accepted n was'
+      → FileCall filledArea bytes before after was is was' is' row column number
+  file-call filledArea bytes before answered area out was was' e e' =
+      record {
+        told = rw answered at (out .0);
+        reads = e ∙ rw answered at (out .1 .reads was);
+        stages = e' ∙ rw answered at (out .1 .stages was');
+        area = area;
+      }
 
 module _ (bytes before : List ℕ) where
   pub report-short : length before < 32768 → ReportCall bytes before before 0
   unfolding reportText
   report-short short = record { written = rw (lt-leb 32768 (length before)) record { bytes = refl; counted = refl }; within = omega arith }
 
-  pub report-written : {after : List ℕ} {count : ℕ} → 32768 ≤ length before → Reported bytes before after count → ReportCall bytes before after count
+  pub report-written : {after : List ℕ} {count : ℕ} → 32768 ≤ length before → Reported (fileText bytes (fileAnswer bytes 1024)) before after count
+      → ReportCall bytes before after count
   unfolding reportText
   report-written enough done = record { written = rw (le-leb 32768 (length before)) (done .written); within = done .within }

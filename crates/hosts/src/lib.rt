@@ -1,13 +1,9 @@
-// The services for programs in C and in languages that call C. An answer that is an enum is handed
-// over as a number, which is returned, and as out places that the caller lends: every one is written
-// by every call. No call has a `requires`. `include/yulanbowls.h` declares them.
+// The services for programs in C and in languages that call C: the number of a refusal is returned, or 0, and
+// `row` and `column` tell the rest of it, 0 and 0 where there is none. What the call hands over goes to out
+// places that the caller lends; a refused call leaves these as they were. No call has a `requires`.
+// `include/yulanbowls.h` declares them.
 ghost use Rattle.definitions.specs.File.{fileNumberArea, fileWordArea};
-ghost use Rattle.file.specs.Loaded.{loaded};
-ghost use Rattle.hosts.specs.Told.{HeadTold};
-ghost use Rattle.hosts.specs.Promises.{TableCall, EntryCall, FileCall, ReportCall};
-use file::Loaded;
-use planner::Entry;
-use planner::Table;
+ghost use Rattle.hosts.specs.HostCalls.{TableCall, EntryCall, FileCall, ReportCall};
 
 // The whole table in the first n × n places of the answer area, and its allowance.
 #[no_mangle]
@@ -20,27 +16,15 @@ pub extern "C" fn yulanbowls_table(
     row: &mut usize,
     column: &mut usize,
 ) -> usize
-    ensures { λ r. ⌜ TableCall reading n (now (sheet .entry)) (now (answer .entry)) (now (answer .exit)) (now (allowance .exit)) (now (row .exit)) (now (column .exit)) r ⌝ }
+    ensures { λ r. ⌜ TableCall reading n (now (sheet .entry)) (now (answer .entry)) (now (answer .exit)) (now (allowance .entry)) (now (allowance .exit)) (now (row .exit)) (now (column .exit)) r ⌝ }
 {
-    let told = planner::whole_table(reading, n, sheet, answer);
-    match told {
-        Table::Allowed { allowance: allowed } => {
-            *allowance = allowed;
-            *row = 0;
-            *column = 0;
-            0
-        }
-        Table::Refused {
-            number,
-            row: bad_row,
-            column: bad_column,
-        } => {
-            *allowance = 0;
-            *row = bad_row;
-            *column = bad_column;
-            number
-        }
+    let table = out_places::table(planner::whole_table(reading, n, sheet, answer));
+    *row = table.row;
+    *column = table.column;
+    if table.accepted {
+        *allowance = table.allowance;
     }
+    table.number
 }
 
 // Entry (i, j), counted from 1: the seconds that a request entering at stage i spends at stage j.
@@ -55,62 +39,15 @@ pub extern "C" fn yulanbowls_entry(
     row: &mut usize,
     column: &mut usize,
 ) -> usize
-    ensures { λ r. ⌜ EntryCall reading n (now (sheet .entry)) i j (now (seconds .exit)) (now (row .exit)) (now (column .exit)) r ⌝ }
+    ensures { λ r. ⌜ EntryCall reading n (now (sheet .entry)) i j (now (seconds .entry)) (now (seconds .exit)) (now (row .exit)) (now (column .exit)) r ⌝ }
 {
-    let told = planner::one_entry(reading, n, sheet, i, j);
-    match told {
-        Entry::Seconds { value } => {
-            *seconds = value;
-            *row = 0;
-            *column = 0;
-            0
-        }
-        Entry::Refused {
-            number,
-            row: bad_row,
-            column: bad_column,
-        } => {
-            *seconds = 0.0;
-            *row = bad_row;
-            *column = bad_column;
-            number
-        }
+    let entry = out_places::entry(planner::one_entry(reading, n, sheet, i, j));
+    *row = entry.row;
+    *column = entry.column;
+    if entry.accepted {
+        *seconds = entry.seconds;
     }
-}
-
-// What file reading answers, in the out places of a call.
-fn hand_over(
-    told: Loaded,
-    reading: &mut usize,
-    n: &mut usize,
-    row: &mut usize,
-    column: &mut usize,
-) -> usize
-    ensures { λ r. ⌜ HeadTold (loaded told) (now (reading .exit)) (now (n .exit)) (now (row .exit)) (now (column .exit)) r ⌝ }
-{
-    match told {
-        Loaded::Sheet {
-            reading: head_reading,
-            n: stages,
-        } => {
-            *reading = head_reading;
-            *n = stages;
-            *row = 0;
-            *column = 0;
-            0
-        }
-        Loaded::Refused {
-            number,
-            row: bad_row,
-            column: bad_column,
-        } => {
-            *reading = 0;
-            *n = 0;
-            *row = bad_row;
-            *column = bad_column;
-            number
-        }
-    }
+    entry.number
 }
 
 // A sheet file's numbers in the first n × n places of the area, each from its bits.
@@ -123,9 +60,16 @@ pub extern "C" fn yulanbowls_read_numbers(
     row: &mut usize,
     column: &mut usize,
 ) -> usize
-    ensures { λ r. ⌜ FileCall fileNumberArea (now (bytes .entry)) (now (area .entry)) (now (area .exit)) (now (reading .exit)) (now (n .exit)) (now (row .exit)) (now (column .exit)) r ⌝ }
+    ensures { λ r. ⌜ FileCall fileNumberArea (now (bytes .entry)) (now (area .entry)) (now (area .exit)) (now (reading .entry)) (now (reading .exit)) (now (n .entry)) (now (n .exit)) (now (row .exit)) (now (column .exit)) r ⌝ }
 {
-    hand_over(file::read_numbers(bytes, area), reading, n, row, column)
+    let numbers = out_places::head(file::read_numbers(bytes, area));
+    *row = numbers.row;
+    *column = numbers.column;
+    if numbers.accepted {
+        *reading = numbers.reading;
+        *n = numbers.n;
+    }
+    numbers.number
 }
 
 // A sheet file's 64-bit words in the first n × n places of the area; every bit is kept.
@@ -138,9 +82,16 @@ pub extern "C" fn yulanbowls_read_words(
     row: &mut usize,
     column: &mut usize,
 ) -> usize
-    ensures { λ r. ⌜ FileCall fileWordArea (now (bytes .entry)) (now (area .entry)) (now (area .exit)) (now (reading .exit)) (now (n .exit)) (now (row .exit)) (now (column .exit)) r ⌝ }
+    ensures { λ r. ⌜ FileCall fileWordArea (now (bytes .entry)) (now (area .entry)) (now (area .exit)) (now (reading .entry)) (now (reading .exit)) (now (n .entry)) (now (n .exit)) (now (row .exit)) (now (column .exit)) r ⌝ }
 {
-    hand_over(file::read_words(bytes, area), reading, n, row, column)
+    let words = out_places::head(file::read_words(bytes, area));
+    *row = words.row;
+    *column = words.column;
+    if words.accepted {
+        *reading = words.reading;
+        *n = words.n;
+    }
+    words.number
 }
 
 // The text that dwell prints for a sheet file, at the start of the area; returns its length. An area

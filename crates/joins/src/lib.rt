@@ -22,7 +22,14 @@ fn is_known(c: usize, i: usize, kept: &[bool; 32]) -> bool
 }
 
 // The factors t_lc / p of column c, p being a_c; true if those of the known stages are in range.
-fn factors(n: usize, c: usize, p: f64, t: &[f64; 1024], kept: &[bool; 32], w: &mut [f64; 32]) -> bool
+fn factors(
+    n: usize,
+    c: usize,
+    p: f64,
+    t: &[f64; 1024],
+    kept: &[bool; 32],
+    w: &mut [f64; 32],
+) -> bool
     requires { ⌜ (n ≤ 32) × (c < 32) × IsTable (now t) × (length (now kept) ≡ 32) × IsVector (now w) ⌝ }
     ensures { λ ok. ⌜ Factors n (knows c (marked (now (kept .entry)))) (λ l. table (now (t .entry)) l c) p (vector (now (w .entry))) ok (now (w .exit)) ⌝ }
 {
@@ -39,7 +46,14 @@ fn factors(n: usize, c: usize, p: f64, t: &[f64; 1024], kept: &[bool; 32], w: &m
 }
 
 // The sum of x_il·w_l over the known l, rising from plus zero.
-fn column_sum(n: usize, c: usize, i: usize, kept: &[bool; 32], w: &[f64; 32], x: &[f64; 1024]) -> Sum
+fn column_sum(
+    n: usize,
+    c: usize,
+    i: usize,
+    kept: &[bool; 32],
+    w: &[f64; 32],
+    x: &[f64; 1024],
+) -> Sum
     requires { ⌜ (n ≤ 32) × (i < 32) × (length (now kept) ≡ 32) × IsVector (now w) × IsTable (now x) ⌝ }
     ensures { λ r. ⌜ KnownSum (knows c (marked (now (kept .entry)))) (table (now (x .entry)) i) (vector (now (w .entry))) n (r .value) (r .ok) ⌝ }
 {
@@ -59,7 +73,14 @@ fn column_sum(n: usize, c: usize, i: usize, kept: &[bool; 32], w: &[f64; 32], x:
 }
 
 // Place (i, c), if i is known; true if its steps are in range. A finite sum has every addition in range.
-fn fill_place(n: usize, c: usize, i: usize, kept: &[bool; 32], w: &[f64; 32], x: &mut [f64; 1024]) -> bool
+fn fill_place(
+    n: usize,
+    c: usize,
+    i: usize,
+    kept: &[bool; 32],
+    w: &[f64; 32],
+    x: &mut [f64; 1024],
+) -> bool
     requires { ⌜ (n ≤ 32) × (c < 32) × (i < 32) × (length (now kept) ≡ 32) × IsVector (now w) × IsTable (now x) ⌝ }
     ensures { λ ok. ⌜ PlaceFilled n (knows c (marked (now (kept .entry)))) c (vector (now (w .entry))) i ok (table (now (x .entry))) (now (x .exit)) ⌝ }
 {
@@ -85,7 +106,14 @@ fn fill_column(n: usize, c: usize, kept: &[bool; 32], w: &[f64; 32], x: &mut [f6
 }
 
 // Stage c joins: its column, and its row, 1 / a_c at c and zeros; true if its steps are in range.
-fn join(n: usize, c: usize, t: &[f64; 1024], a: &[f64; 32], kept: &[bool; 32], x: &mut [f64; 1024]) -> bool
+fn join(
+    n: usize,
+    c: usize,
+    t: &[f64; 1024],
+    a: &[f64; 32],
+    kept: &[bool; 32],
+    x: &mut [f64; 1024],
+) -> bool
     requires { ⌜ (n ≤ 32) × (c < 32) × IsTable (now t) × IsVector (now a) × (length (now kept) ≡ 32) × IsTable (now x) ⌝ }
     ensures { λ ok. let t = table (now (t .entry)) in ⌜ Joined n (knows c (marked (now (kept .entry)))) c (λ l. t l c) (vector (now (a .entry)) c) ok (table (now (x .entry))) (now (x .exit)) ⌝ }
 {
@@ -101,7 +129,14 @@ fn join(n: usize, c: usize, t: &[f64; 1024], a: &[f64; 32], kept: &[bool; 32], x
 }
 
 // The stage that is due after q stages joins, unless it is kept; true if its steps are in range.
-fn join_stage(n: usize, q: usize, t: &[f64; 1024], a: &[f64; 32], kept: &[bool; 32], x: &mut [f64; 1024]) -> bool
+fn join_stage(
+    n: usize,
+    q: usize,
+    t: &[f64; 1024],
+    a: &[f64; 32],
+    kept: &[bool; 32],
+    x: &mut [f64; 1024],
+) -> bool
     requires { ⌜ (q < n) × (n ≤ 32) × IsTable (now t) × IsVector (now a) × (length (now kept) ≡ 32) × IsTable (now x) ⌝ }
     ensures { λ ok. ⌜ StageJoins n (table (now (t .entry))) (vector (now (a .entry))) (marked (now (kept .entry))) q (table (now (x .entry))) ok (now (x .exit)) ⌝ }
 {
@@ -113,7 +148,13 @@ fn join_stage(n: usize, q: usize, t: &[f64; 1024], a: &[f64; 32], kept: &[bool; 
 }
 
 // All of them; true if every step is in range.
-pub fn join_stages(n: usize, t: &[f64; 1024], a: &[f64; 32], kept: &[bool; 32], x: &mut [f64; 1024]) -> bool
+pub fn join_stages(
+    n: usize,
+    t: &[f64; 1024],
+    a: &[f64; 32],
+    kept: &[bool; 32],
+    x: &mut [f64; 1024],
+) -> bool
     requires { ⌜ (n ≤ 32) × IsTable (now t) × IsVector (now a) × (length (now kept) ≡ 32) × IsTable (now x) ⌝ }
     ensures { λ ok. ⌜ StagesJoin n (table (now (t .entry))) (vector (now (a .entry))) (marked (now (kept .entry))) (table (now (x .entry))) n ok (now (x .exit)) ⌝ }
 {

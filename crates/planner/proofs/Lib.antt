@@ -1,2 +1,2 @@
 mod Asked
-mod Services
+mod Endings

@@ -10,9 +10,9 @@ use Rattle.definitions.specs.Matrix.{matrix, everyStage}
 use Rattle.definitions.specs.Questions.{pass, tableQuestions, entryQuestions}
 use Rattle.definitions.specs.Accuracy.{Accurate}
 use Rattle.definitions.specs.Services.{tableAnswer, tableArea, entryAnswer}
-use Rattle.planner.specs.declared.Table.{Table}
-use Rattle.planner.specs.declared.Entry.{Entry}
-use Rattle.planner.specs.Answers.{tableGiven, entryGiven}
+use Rattle.answers.specs.declared.Table.{Table}
+use Rattle.answers.specs.declared.Entry.{Entry}
+use Rattle.answers.specs.Answers.{tableGiven, entryGiven}
 
 -- The whole table: the answer r, each place of the answer area before and after, and for an accepted sheet demand 3 of the numbers in the area.
 pub record TableDone (reading n : ℕ) (sheet before after : List Float) (r : Table) : Type 0 where

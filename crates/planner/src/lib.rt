@@ -4,32 +4,10 @@ ghost use mathlib.Core.Path.{_≡_};
 ghost use lib.ListN.{length};
 ghost use Rattle.definitions.specs.Questions.{pass, tableInput, entryInput};
 ghost use Rattle.planner.specs.Promises.{TableDone, EntryDone};
-use tables::row;
+use answers::Entry;
+use answers::Table;
 use shape::Asked;
-
-// The answer of the whole table: its allowance, or a refusal.
-pub enum Table {
-    Allowed {
-        allowance: usize,
-    },
-    Refused {
-        number: usize,
-        row: usize,
-        column: usize,
-    },
-}
-
-// The answer of one entry: a number of seconds, or a refusal.
-pub enum Entry {
-    Seconds {
-        value: f64,
-    },
-    Refused {
-        number: usize,
-        row: usize,
-        column: usize,
-    },
-}
+use tables::row;
 
 // The whole table of a sheet that passed questions 1 to 9. Nothing is written before question 10 passes too.
 fn table_of_sheet(reading: usize, n: usize, sheet: &[f64], answer: &mut [f64]) -> Table

@@ -1,28 +1,31 @@
 -- From the answers of the file's reader and of the whole table to the text that is due for them.
 use mathlib.Core.Path.{_≡_, refl, sym, ap, _∙_}
-use Prim.Native.Nat.{ℕ, _*_, _≤_}
+use Prim.Native.Nat.{ℕ, suc, _*_, _≤_}
 use native.Mathlib.Nat.{mul-le-mul}
 use native.Mathlib.Decide.{decLe}
 use native.Mathlib.Omega.{arith}
+use mathlib.Core.Bool.{cond}
 use mathlib.Core.List.{List, _++_}
+use borrow.Author.Tests.{ltb-true, ltb-false}
+use lib.Dec.{ltb}
 use lib.ListN.{length, take, drop}
-use lib.Seq.{take-at, length-take-le}
+use lib.Seq.{take-at, take-all, take-length, length-take-le}
 use lib.Ieee.{Float}
-use Rattle.definitions.specs.Sheet.{place}
+use Rattle.exact.proofs.Cases.{by-bool}
 use Rattle.definitions.specs.Questions.{Asked, pass, refuse}
 use Rattle.definitions.specs.Services.{given, answer, tableAnswer}
-use Rattle.definitions.specs.File.{fileQuestions, fileAnswer, fileNumbers, fileNumberArea, fileLength, longestFile}
-use Rattle.definitions.specs.Dwell.{refusedLine, secondsLine, tableLines, tableText, fileText, dwellText}
+use Rattle.definitions.specs.File.{fileQuestions, fileAnswer, fileNumbers, fileNumberArea, longestFile}
+use Rattle.definitions.specs.Dwell.{refusedLine, tableText, fileText, dwellText}
 use Rattle.digits.specs.Pasted.{AtStart}
 use Rattle.digits.proofs.Pasting.{count-within}
-use Rattle.text.proofs.Answer.{given-text, refused-text}
-use Rattle.file.specs.declared.Loaded.{Loaded}
-use Rattle.file.specs.declared.Loaded.the-variants as file
-use Rattle.file.specs.Loaded.{loaded}
+use Rattle.text.specs.AnswerText.{answerText}
+use Rattle.text.proofs.Answer.{text-of-answer}
+use Rattle.answers.specs.declared.Loaded.{Loaded}
+use Rattle.answers.specs.declared.Loaded.the-variants as file
+use Rattle.answers.specs.Answers.{tableGiven, headGiven}
 use Rattle.file.proofs.Reading.{sheet-file, to-fill}
-use Rattle.file.proofs.Words.{file-numbers-length}
-use Rattle.planner.specs.declared.Table.{Table}
-use Rattle.planner.specs.declared.Table.the-variants.{Allowed, Refused}
+use Rattle.file.proofs.FileWords.{file-numbers-length}
+use Rattle.answers.specs.declared.Table.{Table}
 use Rattle.planner.specs.Promises.{TableDone}
 use Rattle.report.specs.Reported.{Reported}
 
@@ -31,22 +34,19 @@ pub same-text : {s t before after : List ℕ} {count : ℕ} → s ≡ t → AtSt
 same-text e w = rw e at w
 
 -- The text ends within the buffer.
-pub reported : {bytes t before after : List ℕ} {count : ℕ} → t ≡ fileText bytes (fileAnswer bytes 1024) → length after ≡ length before → AtStart t before after count
-    → Reported bytes before after count
+pub reported : {s t before after : List ℕ} {count : ℕ} → s ≡ t → length after ≡ length before → AtStart s before after count → Reported t before after count
 reported {after = after} {count = count} e same w =
     let within : count ≤ length after = omega (arith, count-within w same) in
     record { written = same-text e w; within = within; front = sym (length-take-le count after within) }
 
--- The text for what the whole table's service answers, and for the area that it leaves.
-module _ (reading n : ℕ) (sheet before after : List Float) (room : length before ≡ 1024) {r : Table} (done : TableDone reading n sheet before after r) where
-  pub allowed-text : {allowed : ℕ} → r ≡ Allowed allowed → secondsLine n allowed ++ tableLines (place n after) n n ≡ tableText reading n sheet (tableAnswer reading n sheet 1024)
-  allowed-text {allowed} e =
-      let is : given allowed ≡ tableAnswer reading n sheet (length before) = rw e at (done .answered) in
-      rw (done .area) (given-text reading n sheet before allowed (sym is) ∙ ap (tableText reading n sheet) (is ∙ rw room))
+pub same-report : {s t before after : List ℕ} {count : ℕ} → s ≡ t → Reported s before after count → Reported t before after count
+same-report e w = rw e at w
 
-  pub turned-away : {number row column : ℕ} → r ≡ Refused number row column → refusedLine number row column ≡ tableText reading n sheet (tableAnswer reading n sheet 1024)
-  turned-away {number} {row} {column} e =
-      refused-text reading n sheet number row column ∙ ap (tableText reading n sheet) (rw (e, room) at (done .answered))
+-- The text for what the whole table's service answers, and for the area that it leaves.
+pub served-text : (reading n : ℕ) (sheet before after : List Float) → length before ≡ 1024 → {r : Table} → TableDone reading n sheet before after r
+    → answerText n after (tableGiven r) ≡ tableText reading n sheet (tableAnswer reading n sheet 1024)
+served-text reading n sheet before after room done =
+    rw (done .area, done .answered) (text-of-answer reading n sheet before _ refl ∙ rw room)
 
 -- A file is read into the start of an area, and the sheet's numbers are those of the file.
 passed : {A : Type 0} (asked : Asked) (value due : A) → answer asked value ≡ given due → asked ≡ pass
@@ -59,7 +59,7 @@ few n h = elim (decLe n 32) [
   | no l ↦ let above : 33 ≤ n = omega arith in omega (arith, mul-le-mul above above)
 ]
 
-module _ (bytes : List ℕ) (before after : List Float) (room : length before ≡ 1024) {r : Loaded} (answered : loaded r ≡ fileAnswer bytes (length before))
+module _ (bytes : List ℕ) (before after : List Float) (room : length before ≡ 1024) {r : Loaded} (answered : headGiven r ≡ fileAnswer bytes (length before))
     (area : after ≡ fileNumberArea bytes before) {reading n : ℕ} (sheet : r ≡ file.Sheet reading n) where
   pub places : n * n ≤ 1024
   places = rw room at (to-fill bytes (length before) answered sheet .1)
@@ -68,7 +68,6 @@ module _ (bytes : List ℕ) (before after : List Float) (room : length before �
   stages = few n places
 
   is-given : fileAnswer bytes (length before) ≡ given (record { reading = reading; n = n })
-  unfolding loaded
   is-given = sym (rw sheet at answered)
 
   starts : after ≡ fileNumbers bytes ++ drop (length (fileNumbers bytes)) before
@@ -83,12 +82,19 @@ module _ (bytes : List ℕ) (before after : List Float) (room : length before �
   sheet-text = rw (numbers, ← room, is-given, room)
 
 -- A file that is refused has the line of its refusal.
-pub file-refused : (bytes : List ℕ) {r : Loaded} {number row column : ℕ} → loaded r ≡ fileAnswer bytes 1024 → r ≡ file.Refused number row column
+pub file-refused : (bytes : List ℕ) {r : Loaded} {number row column : ℕ} → headGiven r ≡ fileAnswer bytes 1024 → r ≡ file.Refused number row column
     → refusedLine number row column ≡ fileText bytes (fileAnswer bytes 1024)
-unfolding fileText loaded
+unfolding fileText
 file-refused bytes answered e = ap (fileText bytes) (rw e at answered)
 
--- The program lends at most 8,459 bytes of its input, and then the text is that of document 01's program.
-pub judges-these-bytes : (input : List ℕ) → fileText (take 8459 input) (fileAnswer (take 8459 input) 1024) ≡ dwellText input
-unfolding dwellText longestFile fileLength
-judges-these-bytes input = refl
+-- The bytes that are judged are all, or as many as the longest file has and one more.
+judged-bytes : (most : ℕ) (input : List ℕ) → take (cond (ltb (length input) most) (length input) most) input ≡ take most input
+judged-bytes most input = by-bool (ltb (length input) most) (λ e. rw (e, take-length, take-all most input (omega (arith, ltb-true (length input) most e)))) (λ e. rw e)
+
+pub dwell-text : (input : List ℕ) {most : ℕ} → most ≡ cond (ltb (length input) (suc longestFile)) (length input) (suc longestFile)
+    → fileText (take most input) (fileAnswer (take most input) 1024) ≡ dwellText input
+unfolding dwellText
+dwell-text input e = rw (e, judged-bytes (suc longestFile) input)
+
+pub judged-length : (held limit : ℕ) → cond (ltb held limit) held limit ≤ held
+judged-length held limit = by-bool (ltb held limit) (λ e. rw e (omega arith)) (λ e. rw e (omega (arith, ltb-false held limit e)))

@@ -3,12 +3,10 @@ use mathlib.Core.Path.{_≡_}
 use Prim.Native.Nat.{ℕ, _≤_}
 use mathlib.Core.List.{List}
 use lib.ListN.{length, take}
-use Rattle.definitions.specs.File.{fileAnswer}
-use Rattle.definitions.specs.Dwell.{fileText}
 use Rattle.digits.specs.Pasted.{AtStart}
 
 -- The last two follow from the first; with them a caller lends the text alone.
-pub record Reported (bytes before after : List ℕ) (count : ℕ) : Type 0 where
-  pub written : AtStart (fileText bytes (fileAnswer bytes 1024)) before after count
+pub record Reported (text before after : List ℕ) (count : ℕ) : Type 0 where
+  pub written : AtStart text before after count
   pub within : count ≤ length after
   pub front : count ≡ length (take count after)

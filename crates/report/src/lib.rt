@@ -1,35 +1,34 @@
 // The text that dwell prints for the bytes of a sheet file, made as a whole in a lent buffer.
-ghost use Prim.Native.Nat.{_≤_};
+ghost use mathlib.Core.Path.{_≡_};
+ghost use mathlib.Core.Bool.{cond};
+ghost use Prim.Native.Nat.{suc, _≤_};
+ghost use lib.Dec.{ltb};
 ghost use lib.ListN.{length};
 ghost use Rattle.definitions.specs.Services.{tableAnswer};
-ghost use Rattle.definitions.specs.Dwell.{tableText};
+ghost use Rattle.definitions.specs.File.{fileAnswer, longestFile};
+ghost use Rattle.definitions.specs.Dwell.{tableText, fileText, dwellText};
 ghost use Rattle.digits.specs.Pasted.{AtStart};
 ghost use Rattle.report.specs.Reported.{Reported};
-use file::Loaded;
-use planner::Table;
+use answers::Loaded;
+
+// One byte more than the longest file: dwell takes no more of its input.
+pub const MOST: usize = 8459;
 
 // The text for a sheet: its table is made in an area of its own.
 fn table_text(reading: usize, n: usize, sheet: &[f64], out: &mut [u8]) -> usize
     requires { ⌜ (n ≤ 32) × (32768 ≤ length (now out)) ⌝ }
-    ensures { λ r. ⌜ AtStart (tableText reading n (now (sheet .entry)) (tableAnswer reading n (now (sheet .entry)) 1024)) (now (out .entry)) (now (out .exit)) r ⌝ }
+    ensures { λ r. let sheet = now (sheet .entry) in ⌜ AtStart (tableText reading n sheet (tableAnswer reading n sheet 1024)) (now (out .entry)) (now (out .exit)) r ⌝ }
 {
     let mut area = [0.0f64; 1024];
     let table = planner::whole_table(reading, n, sheet, &mut area);
-    match table {
-        Table::Allowed { allowance } => text::seconds_text(n, allowance, &area, out),
-        Table::Refused {
-            number,
-            row,
-            column,
-        } => text::refused_text(number, row, column, out),
-    }
+    text::answer_text(table, n, &area, out)
 }
 
 // The text for the bytes of a file, at the start of `out`; later bytes stay as they were. Returns
 // the length of the text.
 pub fn answer(bytes: &[u8], out: &mut [u8]) -> usize
     requires { ⌜ 32768 ≤ length (now out) ⌝ }
-    ensures { λ r. ⌜ Reported (now (bytes .entry)) (now (out .entry)) (now (out .exit)) r ⌝ }
+    ensures { λ r. let bytes = now (bytes .entry) in ⌜ Reported (fileText bytes (fileAnswer bytes 1024)) (now (out .entry)) (now (out .exit)) r ⌝ }
 {
     let mut area = [0.0f64; 1024];
     let loaded = file::read_numbers(bytes, &mut area);
@@ -44,4 +43,23 @@ pub fn answer(bytes: &[u8], out: &mut [u8]) -> usize
             column,
         } => text::refused_text(number, row, column, out),
     }
+}
+
+// How many bytes of an input of `held` bytes are judged.
+fn judged(held: usize) -> usize
+    ensures { λ r. ⌜ r ≡ cond (ltb held (suc longestFile)) held (suc longestFile) ⌝ }
+{
+    if held < MOST {
+        return held;
+    }
+    MOST
+}
+
+// What dwell prints for an input of any length: the text for its first bytes, in the same way.
+pub fn dwell(input: &[u8], out: &mut [u8]) -> usize
+    requires { ⌜ 32768 ≤ length (now out) ⌝ }
+    ensures { λ r. ⌜ Reported (dwellText (now (input .entry))) (now (out .entry)) (now (out .exit)) r ⌝ }
+{
+    let most = judged(input.len());
+    answer(&input[..most], out)
 }

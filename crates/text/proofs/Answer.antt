@@ -9,9 +9,10 @@ use Rattle.definitions.specs.Tables.{rows}
 use Rattle.definitions.specs.Sheet.{place}
 use Rattle.definitions.specs.Table.{entry}
 use Rattle.definitions.specs.Questions.{Asked, pass, refuse, tableQuestions}
-use Rattle.definitions.specs.Services.{given, refused, answer, filled, tableAnswer, table, tableArea}
-use Rattle.definitions.specs.Dwell.{refusedLine, secondsLine, entryLine, rowLines, tableLines, tableText}
+use Rattle.definitions.specs.Services.{Answer, given, refused, answer, filled, tableAnswer, table, tableArea}
+use Rattle.definitions.specs.Dwell.{secondsLine, entryLine, rowLines, tableLines, tableText}
 use Rattle.steps.proofs.TableLaws.{place-of-rows}
+use Rattle.text.specs.AnswerText.{answerText}
 use Rattle.lines.proofs.Lines.{row-none, row-grows, table-none, table-grows}
 
 -- Two tables that agree where the lines look have the same lines.
@@ -40,7 +41,7 @@ filled-given pass value allowed new area e = refl
 filled-given (refuse number row column) value allowed new area e = cc
 
 -- The text for the answer that the whole table's service gives, and for the area that it leaves.
-pub given-text : (reading n : ℕ) (sheet area : List Float) (allowed : ℕ) → tableAnswer reading n sheet (length area) ≡ given allowed
+given-text : (reading n : ℕ) (sheet area : List Float) (allowed : ℕ) → tableAnswer reading n sheet (length area) ≡ given allowed
     → secondsLine n allowed ++ tableLines (place n (tableArea reading n sheet area)) n n ≡ tableText reading n sheet (given allowed)
 unfolding tableText tableAnswer tableArea table
 given-text reading n sheet area allowed e =
@@ -48,6 +49,8 @@ given-text reading n sheet area allowed e =
     (rw (filled-given (tableQuestions reading n sheet (length area)) _ allowed (rows (entry reading n sheet) n n) area e)
     (lines-of-rows (entry reading n sheet) n _))
 
-pub refused-text : (reading n : ℕ) (sheet : List Float) (number row column : ℕ) → refusedLine number row column ≡ tableText reading n sheet (refused number row column)
-unfolding tableText
-refused-text reading n sheet number row column = refl
+pub text-of-answer : (reading n : ℕ) (sheet area : List Float) (a : Answer ℕ) → tableAnswer reading n sheet (length area) ≡ a
+    → answerText n (tableArea reading n sheet area) a ≡ tableText reading n sheet a
+unfolding answerText tableText
+text-of-answer reading n sheet area (given allowed) e = given-text reading n sheet area allowed e
+text-of-answer reading n sheet area (refused number row column) e = refl

@@ -5,7 +5,10 @@ ghost use Prim.Native.Nat.{_*_, _≤_};
 ghost use lib.ListN.{length};
 ghost use Rattle.definitions.specs.Sheet.{place};
 ghost use Rattle.definitions.specs.Dwell.{refusedLine, secondsLine, tableLines};
+ghost use Rattle.answers.specs.Answers.{tableGiven};
 ghost use Rattle.digits.specs.Pasted.{AtStart};
+ghost use Rattle.text.specs.AnswerText.{answerText};
+use answers::Table;
 
 // The line of a refusal, at the start of `out`; later bytes stay as they were. Returns its length.
 pub fn refused_text(number: usize, row: usize, column: usize, out: &mut [u8]) -> usize
@@ -20,7 +23,7 @@ pub fn refused_text(number: usize, row: usize, column: usize, out: &mut [u8]) ->
 
 // The lines of an accepted sheet, at the start of `out`; later bytes stay as they were. `answer`
 // holds the table row by row, and may be longer. Returns the length of the lines.
-pub fn seconds_text(n: usize, allowance: usize, answer: &[f64], out: &mut [u8]) -> usize
+fn seconds_text(n: usize, allowance: usize, answer: &[f64], out: &mut [u8]) -> usize
     requires { ⌜ (n ≤ 32) × (n * n ≤ length (now answer)) × (32768 ≤ length (now out)) ⌝ }
     ensures { λ r. ⌜ AtStart (secondsLine n allowance ++ tableLines (place n (now (answer .entry))) n n) (now (out .entry)) (now (out .exit)) r ⌝ }
 {
@@ -28,4 +31,19 @@ pub fn seconds_text(n: usize, allowance: usize, answer: &[f64], out: &mut [u8]) 
     let after_n = digits::put_field(n, b' ', after_word, out);
     let after_allowance = digits::put_field(allowance, b'\n', after_n, out);
     lines::put_table(n, answer, after_allowance, out)
+}
+
+// The text for what the whole table's service answers; where it is accepted, `answer` holds the table.
+pub fn answer_text(told: Table, n: usize, answer: &[f64], out: &mut [u8]) -> usize
+    requires { ⌜ (n ≤ 32) × (n * n ≤ length (now answer)) × (32768 ≤ length (now out)) ⌝ }
+    ensures { λ r. ⌜ AtStart (answerText n (now (answer .entry)) (tableGiven told)) (now (out .entry)) (now (out .exit)) r ⌝ }
+{
+    match told {
+        Table::Allowed { allowance } => seconds_text(n, allowance, answer, out),
+        Table::Refused {
+            number,
+            row,
+            column,
+        } => refused_text(number, row, column, out),
+    }
 }

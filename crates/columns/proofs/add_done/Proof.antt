@@ -63,9 +63,9 @@ loop-again c =
     let s = own .before in (
       omega (arith, from .before .loop-test .taken),
       blocks-turn (l .loop .inv .1) (s .pre .1) (s .pre .0) (s .pre .4)
-      (rw (← from .skipped .ensures) (within from))
-      (rw (first .turn2 .ensures, from .skipped .ensures, own .turn .ensures) at (c .add-rows .ensures))
-      (omega arith),
+          (rw (← from .skipped .ensures) (within from))
+          (rw (first .turn2 .ensures, from .skipped .ensures, own .turn .ensures) at (c .add-rows .ensures))
+          (omega arith),
     )
 
 returns : tie.Need-returns Inv-loop μ-loop

@@ -55,7 +55,7 @@ row-told-requires c κs =
       s .pre .1,
       l .loop .inv .2 .long,
       all-covered (s .args .r) (s .args .falling) (table (s .args .t .now)) (table (s .args .b .now)) (s .pre .0) (l .loop .inv .2) p (omega arith)
-      (rw (row .turn .ensures, wide .reach .ensures) at (bound .least .ensures)),
+          (rw (row .turn .ensures, wide .reach .ensures) at (bound .least .ensures)),
     )
 
 add-done-requires : tie.Need-add-done-requires Inv-loop μ-loop

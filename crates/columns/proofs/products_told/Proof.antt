@@ -51,7 +51,7 @@ loop-again c =
     let k = due .turn2 .ensures in (
       omega arith,
       gathered-turns (l .loop .inv .1)
-      (rw (wide .reach .ensures, k, own .turn .ensures) at (products-at (wide .reach .result) (table (s .t .now) (own .turn .result)) (table (s .b .now)) (due .turn2 .result) (got .get .ensures) (c .products-in-range .ensures))),
+          (rw (wide .reach .ensures, k, own .turn .ensures) at (products-at (wide .reach .result) (table (s .t .now) (own .turn .result)) (table (s .b .now)) (due .turn2 .result) (got .get .ensures) (c .products-in-range .ensures))),
     )
 
 pub products-told-spec : {M : Type 1} → statement M

@@ -5,7 +5,7 @@ use native.Mathlib.Omega.{arith}
 use lib.Ieee.{binary64, ofBits}
 use Rattle.definitions.specs.File.{fileNumbers}
 use Rattle.file.proofs.Filling.{Filling, none-yet, one-more, all-written}
-use Rattle.file.proofs.Words.{few-words, file-numbers-length, file-number}
+use Rattle.file.proofs.FileWords.{few-words, file-numbers-length, file-number}
 use Rattle.file.proofs.fill_numbers.Statement.{statement}
 use Rattle.file.proofs.fill_numbers.Tie as tie
 

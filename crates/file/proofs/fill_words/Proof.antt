@@ -3,7 +3,7 @@ use Prim.Native.Nat.{_-_, _*_}
 use native.Mathlib.Omega.{arith}
 use Rattle.definitions.specs.File.{fileWords}
 use Rattle.file.proofs.Filling.{Filling, none-yet, one-more, all-written}
-use Rattle.file.proofs.Words.{few-words, file-words-length}
+use Rattle.file.proofs.FileWords.{few-words, file-words-length}
 use Rattle.file.proofs.fill_words.Statement.{statement}
 use Rattle.file.proofs.fill_words.Tie as tie
 

@@ -3,7 +3,7 @@ use Prim.Native.Nat.{_+_, _*_, _/_, _≤_}
 use mathlib.Core.Path.{sym, _∙_}
 use native.Mathlib.Omega.{arith}
 use lib.ListN.{length}
-use Rattle.file.proofs.Words.{at-least-one, file-word, word-held}
+use Rattle.file.proofs.FileWords.{at-least-one, file-word, word-held}
 use Rattle.file.proofs.word_of.Statement.{statement}
 use Rattle.file.proofs.word_of.Tie as tie
 

@@ -24,8 +24,7 @@ abbrev μ-loop : tie.MeasureT-loop
 loop-again : tie.Need-loop-again Inv-loop μ-loop
 loop-again c =
     let known = c .before in
-    let h = known .before .before .loop .inv .1 in
-    (
+    let h = known .before .before .loop .inv .1 in (
       omega arith,
       ⊎-elim
           (λ v. rw (v .4, v .5) (known-adds h (sym (known .is-known .ensures) ∙ v .0 .taken) (ap₂ _⊗_ (v .1 .ensures) (v .2 .ensures)) (v .3 .ensures ∙ product-test (v .1 .result) (v .2 .result) ∙ ap₂ mulInRange (v .1 .ensures) (v .2 .ensures))))

@@ -32,8 +32,7 @@ loop-again c =
     let got = tested .before in
     let known = got .before in
     let l = known .before .before in
-    let p = l .before .args .p in
-    (
+    let p = l .before .args .p in (
       omega arith,
       vector-turns _ _ _ (l .loop .inv .1) (c .put .ensures) (ap (λ x. x ⊘ p) (got .get .ensures)),
       gathered-turns (l .loop .inv .2) (ap₂ (λ a b. not a || b) (known .is-known .ensures) (tested .result-in-range .ensures ∙ quotient-test (got .get .result) p ∙ ap (λ x. divInRange x p) (got .get .ensures))),

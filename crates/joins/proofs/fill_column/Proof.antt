@@ -35,8 +35,7 @@ loop-again c =
     let s = l .before .args in
     let known = knows (s .c) (marked (s .kept .now)) in
     let i = l .loop .i in
-    let own = down-due (l .loop .inv .1) i (le-refl i) in
-    (
+    let own = down-due (l .loop .inv .1) i (le-refl i) in (
       omega arith,
       down-turns (l .loop .inv .1) (c .fill-place .ensures .holds) (ap (columnRow (s .n) known (s .c) (vector (s .w .now)) i) own),
       gathered-turns (l .loop .inv .2) (c .fill-place .ensures .range ∙ ap (λ row. not (known i) || placeInRange (s .n) known (vector (s .w .now)) row) own),

@@ -51,8 +51,7 @@ loop-again c =
     let l = at .before .before in
     let h = l .loop .inv .1 in
     let ex = x .get .ensures ∙ along-due h in
-    let ey = y .get2 .ensures ∙ ap (vector (l .before .args .k .now)) (at .stage .ensures) in
-    (
+    let ey = y .get2 .ensures ∙ ap (vector (l .before .args .k .now)) (at .stage .ensures) in (
       omega arith,
       along-turns h (c .put .ensures) (ap₂ _⊗_ ex ey),
       gathered-turns (l .loop .inv .2) (ap (λ b. eqb (l .loop .q) (l .before .args .p) || b) (tested .result-in-range .ensures ∙ product-test (x .get .result) (y .get2 .result) ∙ ap₂ mulInRange ex ey)),

@@ -28,8 +28,7 @@ loop-again c =
     let tested = c .before .before .before in
     let y = tested .before in
     let x = y .before in
-    let l = x .before .before in
-    (
+    let l = x .before .before in (
       omega arith,
       shares-turn (marked (l .before .args .kept .now)) (l .loop .inv .1) (l .loop .inv .2) (tested .result-in-range .ensures ∙ quotient-test (x .get .result) (y .get2 .result) ∙ ap₂ divInRange (x .get .ensures) (y .get2 .ensures)) (ap₂ _⊘_ (x .get .ensures) (y .get2 .ensures)) (c .put .ensures),
       above-turns (marked (l .before .args .kept .now)) (l .loop .j) (l .loop .inv .2),

@@ -32,8 +32,7 @@ loop-again c =
     let l = c .before .before .before in
     let s = l .before .args in
     let p = l .loop .p in
-    let own = down-due (l .loop .inv .1) p (le-refl p) in
-    (
+    let own = down-due (l .loop .inv .1) p (le-refl p) in (
       omega arith,
       down-turns (l .loop .inv .1) (c .system-row .ensures .holds) (ap (scaledRow (s .n) (s .r) (s .stages .now) (table (s .t .now)) (vector (s .k .now)) (vector (s .w .now)) p) own),
       gathered-turns (l .loop .inv .2) (c .system-row .ensures .range ∙ ap (rowInRange (s .n) (s .r) (s .stages .now) (table (s .t .now)) (vector (s .k .now)) (vector (s .w .now)) p) own),

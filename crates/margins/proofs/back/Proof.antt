@@ -43,8 +43,7 @@ loop-again c =
     let s = l .before .args in
     let p = l .loop .p in
     let own = down-due (l .loop .inv .1) p (le-refl p) in
-    let m = got .get .ensures ∙ ap (vector (s .k .now)) (at .stage .ensures) in
-    (
+    let m = got .get .ensures ∙ ap (vector (s .k .now)) (at .stage .ensures) in (
       omega arith,
       down-turns (l .loop .inv .1) {row = between 0 (s .r) (multiple (got .get .result) (table (l .loop .y) p)) (table (l .loop .y) p)} (c .multiply .ensures .holds) (ap₂ (λ x row. between 0 (s .r) (multiple x row) row) m own),
       gathered-turns (l .loop .inv .2) (c .multiply .ensures .range ∙ ap₂ (λ x row. all (timesInRange x row) 0 (s .r)) m own),

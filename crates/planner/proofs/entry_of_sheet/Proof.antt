@@ -6,7 +6,7 @@ use Prim.Native.Nat.{_≤_}
 use Rattle.shape.specs.Square.{Square}
 use Rattle.shape.proofs.ShapeQuestions.{entry-input-passed}
 use Rattle.definitions.specs.Accuracy.{Binary64}
-use Rattle.planner.proofs.Services.{entry-given, entry-out-of-range}
+use Rattle.planner.proofs.Endings.{entry-given, entry-out-of-range}
 use Rattle.planner.proofs.entry_of_sheet.Statement.{statement}
 use Rattle.planner.proofs.entry_of_sheet.Tie as tie
 

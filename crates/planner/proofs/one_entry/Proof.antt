@@ -2,7 +2,7 @@
 use borrow.Author.Needs.{needs}
 use denote.Ref.{now}
 use Rattle.planner.proofs.Asked.{told}
-use Rattle.planner.proofs.Services.{entry-refused}
+use Rattle.planner.proofs.Endings.{entry-refused}
 use Rattle.planner.proofs.one_entry.Statement.{statement}
 use Rattle.planner.proofs.one_entry.Tie as tie
 

@@ -8,7 +8,7 @@ use Prim.Native.Nat.{_*_, _≤_}
 use Rattle.shape.specs.Square.{Square}
 use Rattle.shape.proofs.ShapeQuestions.{table-input-passed}
 use Rattle.definitions.specs.Accuracy.{Binary64}
-use Rattle.planner.proofs.Services.{table-given, table-out-of-range}
+use Rattle.planner.proofs.Endings.{table-given, table-out-of-range}
 use Rattle.planner.proofs.table_of_sheet.Statement.{statement}
 use Rattle.planner.proofs.table_of_sheet.Tie as tie
 

@@ -2,7 +2,7 @@
 use borrow.Author.Needs.{needs}
 use denote.Ref.{now}
 use Rattle.planner.proofs.Asked.{told}
-use Rattle.planner.proofs.Services.{table-refused}
+use Rattle.planner.proofs.Endings.{table-refused}
 use Rattle.planner.proofs.whole_table.Statement.{statement}
 use Rattle.planner.proofs.whole_table.Tie as tie
 

@@ -1,0 +1,23 @@
+-- The declared answers as document 01's: what was asked for, or a number, a row and a column.
+use Prim.Native.Nat.{ℕ}
+use lib.Ieee.{Float}
+use Rattle.definitions.specs.File.{Head}
+use Rattle.definitions.specs.Services.{Answer, given, refused}
+use Rattle.answers.specs.declared.Table.{Table}
+use Rattle.answers.specs.declared.Table.the-variants as table
+use Rattle.answers.specs.declared.Entry.{Entry}
+use Rattle.answers.specs.declared.Entry.the-variants as entry
+use Rattle.answers.specs.declared.Loaded.{Loaded}
+use Rattle.answers.specs.declared.Loaded.the-variants as loaded
+
+abbrev pub tableGiven : Table → Answer ℕ
+tableGiven (table.Allowed allowance) = given allowance
+tableGiven (table.Refused number row column) = refused number row column
+
+abbrev pub entryGiven : Entry → Answer Float
+entryGiven (entry.Seconds value) = given value
+entryGiven (entry.Refused number row column) = refused number row column
+
+abbrev pub headGiven : Loaded → Answer Head
+headGiven (loaded.Sheet reading n) = given (record { reading = reading; n = n })
+headGiven (loaded.Refused number row column) = refused number row column

@@ -1,0 +1,39 @@
+// What the services answer (document 01, "Which form goes where"): what was asked for, or a refusal with its
+// number, row and column. specs/Answers.antt gives the document's answer for each case.
+
+// The whole table: its allowance.
+pub enum Table {
+    Allowed {
+        allowance: usize,
+    },
+    Refused {
+        number: usize,
+        row: usize,
+        column: usize,
+    },
+}
+
+// One entry: a number of seconds.
+pub enum Entry {
+    Seconds {
+        value: f64,
+    },
+    Refused {
+        number: usize,
+        row: usize,
+        column: usize,
+    },
+}
+
+// File reading: the reading and the number of stages.
+pub enum Loaded {
+    Sheet {
+        reading: usize,
+        n: usize,
+    },
+    Refused {
+        number: usize,
+        row: usize,
+        column: usize,
+    },
+}

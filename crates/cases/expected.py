@@ -1,0 +1,334 @@
+#!/usr/bin/env python3
+"""Makes the cases that the program `cases` runs and what it must write, from the independent reference:
+
+    python3 crates/cases/expected.py stdin > crates/cases/stdin
+    python3 crates/cases/expected.py stdout > crates/cases/stdout
+
+dwell's input: all sheets of document 01, the cases of its reading that a file can carry, damaged files, sheets
+at the edge of the range, and random sheets of both readings with every n from 1 to 32. Calls of the whole table
+and of one entry where a file cannot: sizes out of range, sheets and areas of a wrong length, stages out of range.
+Files for both readers: cut at every byte, a byte of a record's head changed, lengths, one byte more, a small area.
+Before an accepted table is written it is compared with the exact inverse by the accuracy rule.
+"""
+from __future__ import annotations
+
+import random
+import struct
+import sys
+from pathlib import Path
+from typing import Iterator, NamedTuple, Union
+
+sys.path.insert(0, str(Path(__file__).resolve().parents[2] / "tools"))
+sys.dont_write_bytecode = True
+
+from reference import (INF, LARGEST, LIMIT, NAN, P_SHEET, SHEET_ROW, Loaded, Refused, Style, Table, accuracy,  # noqa: E402
+                       bits_of, dwell, edge_pair, entry, load, make_file, make_file_words, number_of, random_sheet,
+                       random_style, record, table, table_of_stream)
+
+Sheet = tuple[int, int, list[float]]  # reading, n, numbers
+
+SMALLEST = 2.0 ** -1022
+
+# Document 01, "Sheets to try", with the off-diagonals -2^-1074 and -2^-1022.
+DOCUMENT: list[Sheet] = [
+    (1, 1, [2.0]), (1, 1, [0.0]), (1, 2, P_SHEET), (1, 2, [0.0, -1.0, -1.0, 0.0]), (1, 2, [1.0, 0.0, 0.0, 0.0]),
+    (1, 1, [2.0 ** 1021]), (1, 1, [2.0 ** 1022]), (2, 1, [0.0]), (2, 2, [3.0, -1.0, -4.0, 1.0]),
+    (2, 2, [2.0, 0.0, -1.0, 4.0]), (1, 2, [1.0, NAN, 5.0, 1.0]), (1, 1, [3.0]),
+    (1, 2, [1.0, -2.0 ** -1074, 0.0, 1.0]), (1, 2, [1.0, -SMALLEST, 0.0, 1.0]),
+    (1, 2, [1.0, -SMALLEST, 0.0, 2.0 ** -10])]
+
+# Each question of the whole sheet before the next, and the first bad place.
+ORDER: list[Sheet] = [
+    (1, 2, [5.0, 1.0, NAN, 1.0]), (1, 2, [1.0, -2.0 ** -1074, 1.0, 1.0]), (1, 2, [0.0, -2.0 ** -1074, 0.0, 0.0]),
+    (2, 2, [1.0, 0.0, 0.0, 2.0 ** -1074]), (1, 2, [2.0 ** 1022, 0.0, 0.0, 0.0]), (1, 2, [1.0, 0.0, 0.0, INF]),
+    (2, 1, [-INF]), (1, 2, [1.0, 0.0, 0.0, -1.0]), (2, 1, [-1.0]),
+    (1, 4, [0.0, 0.0, 0.0, -1.0, 0.0, 0.0, -1.0, 0.0, 0.0, -1.0, 0.0, 0.0, 0.0, 0.0, 0.0, 1.0])]
+
+# A zero of either sign.
+ZEROS: list[Sheet] = [
+    (1, 1, [-0.0]), (2, 2, [1.0, 0.0, 0.0, -0.0]), (1, 2, [1.0, -1.0, -1.0, -0.0]), (1, 2, [2.0, -0.0, 0.0, 4.0]),
+    (2, 2, [2.0, 0.0, -0.0, 4.0]), (2, 2, [2.0, -0.0, -1.0, 4.0])]
+
+# The rounded result decides, and only steps that are taken count.
+RANGE: list[Sheet] = [
+    (1, 2, [(1 + 2.0 ** -52) * 2.0 ** -500, -1.0, -(1 - 2.0 ** -53) * 2.0 ** -522, 1.0]),
+    (1, 1, [2.0 ** 1022 - 2.0 ** 969]), (2, 3, [1.0, 0.0, -1.0, 0.0, SMALLEST, -1.0, 0.0, 0.0, 1.0]),
+    (2, 2, [SMALLEST, -1.0, 0.0, 1.0]), (1, 2, [1.0, 0.0, 0.0, 2.0 ** 1022])]
+
+# Orders and groupings of the steps that other texts have otherwise.
+ORDERS_OF_STEPS: list[Sheet] = [
+    (2, 2, [3.0, -1.0, 0.0, 1.0]), (2, 2, [1.0, -5.0, 0.0, 1.0]), (2, 2, [4.0, -3.0, -1.0, 1.0]),
+    (2, 2, [5.0, 0.0, -3.0, 1.0]),
+    (2, 4, [1.0, 0.0, 0.0, 0.0, -7.0, 3.0, 0.0, -3.0, -7.0, 0.0, 4.0, 0.0, -3.0, -5.0, -5.0, 7.0]),
+    (2, 4, [1.0, -2.0 ** 53, -1.0, -1.0, 0.0, 1.0, 0.0, 0.0, 0.0, 0.0, 1.0, 0.0, 0.0, 0.0, 0.0, 1.0]),
+    (2, 4, [2.0 ** -60, 0.0, 0.0, -1.0, -2.0 ** 53, 1.0, -1.0, -1.0, 0.0, 0.0, 1.0, 0.0, 0.0, 0.0, 0.0, 1.0]),
+    (1, 3, [2.0 ** 53, -1.0, -1.0, 0.0, 1.0, 0.0, 0.0, 0.0, 1.0]),
+    (1, 3, [1.0, -(2.0 ** -53 + 2.0 ** -60), -2.0 ** -53, -(1 + 2.0 ** -51), 0.0, 0.0, -(1 + 2.0 ** -51), 0.0, 0.0])]
+
+
+def steps_out_of_range() -> list[Sheet]:
+    """For each kind of step a sheet in which one step of that kind leaves the range first."""
+    tiny, huge, most = 2.0 ** -600, 2.0 ** 600, LARGEST
+    return [
+        (1, 3, [1.0, 0.0, 0.0, 0.0, most, -most, 0.0, 0.0, 1.0]),       # a pivot
+        (1, 2, [huge, 0.0, -tiny, 1.0]),                                # a downward m
+        (1, 2, [tiny, -1.0, -tiny, 1.0]),                               # m·s_k
+        (1, 2, [most, 0.0, -most, most]),                               # s_i + m·s_k
+        (1, 3, [1.0, 0.0, -tiny, -tiny, 1.0, 0.0, 0.0, 0.0, 1.0]),      # m·t_kj
+        (1, 3, [1.0, 0.0, 0.0, -tiny, 1.0, 0.0, 0.0, -tiny, 1.0]),      # a downward m·b_kj
+        (1, 2, [1.0, -tiny, 0.0, huge]),                                # an upward m
+        (1, 3, [1.0, -tiny, 0.0, 0.0, 1.0, -tiny, 0.0, 0.0, 1.0]),      # an upward m·b_kj
+        (2, 2, [huge, -1.0, -tiny, 1.0]),                               # t_ij·k_j in h
+        (2, 3, [1.0, -most, -most, 0.0, 1.0, 0.0, 0.0, 0.0, 1.0]),      # h
+        (2, 2, [most, -most, 0.0, 1.0]),                                # a = d + h
+        (2, 2, [huge, -tiny, 0.0, 1.0]),                                # k = h / a
+        (2, 3, [1.0, -tiny, -1.0, 0.0, huge, -1.0, 0.0, 0.0, 1.0]),     # a new size
+        (2, 3, [1.0, -tiny, -1.0, 0.0, tiny, -1.0, 0.0, 0.0, 1.0]),     # t·(d / a)
+        (2, 3, [huge, -tiny, -1.0, 0.0, 1.0, -1.0, 0.0, 0.0, 1.0]),     # k_i·y_ij
+        (2, 1, [2.0 ** 1022]),                                          # 1 / a_k
+        (2, 2, [huge, 0.0, -tiny, 1.0]),                                # t_jk / a_k
+        (2, 2, [1.0, 0.0, -tiny, huge])]                                # x_ij·(t_jk / a_k)
+
+
+def damaged_files() -> list[bytes]:
+    """Files that are refused before a sheet is known, and the bytes that dwell judges."""
+    p = make_file(1, 2, P_SHEET)
+    longest = make_file(1, LIMIT, [2.0 if i % (LIMIT + 1) == 0 else 0.0 for i in range(LIMIT * LIMIT)])
+    bad_row = p[:16] + struct.pack("<H", 9) + p[18:]
+    return [
+        b"", p[:1], p[:9], p[:10], p[:33], p[:34], p[:-1], p + b"\0", bad_row, bad_row[:50],
+        p[:10] + record(SHEET_ROW, b"") + p[34:], p[:34] + record(SHEET_ROW, b""),
+        record(1, struct.pack("<HH", 1, 33)), record(1, struct.pack("<HH", 1, 0)), record(1, struct.pack("<HH", 3, 1)),
+        record(1, struct.pack("<HH", 0, 1)), record(2, struct.pack("<HH", 1, 1)), record(1, b"\1\0"),
+        struct.pack("<IH", 2 ** 32 - 1, 1) + p[6:], longest + b"\0", longest + bytes(4000), longest[:-1],
+        struct.pack("<IH", 8454, 2) + bytes(10000), struct.pack("<IH", 8453, 2) + bytes(10000),
+        struct.pack("<IH", 9000, 2) + bytes(10000)]
+
+
+def accepted(sheet: Sheet) -> bool:
+    reading, n, numbers = sheet
+    return isinstance(table(reading, n, numbers, n * n), Table)
+
+
+def edge_of(sheet: Sheet) -> list[Sheet]:
+    """An accepted sheet and one refused with 10, one last place apart, between a refused sheet and the
+    same sheet with one number of size 1; the refused sheet alone where no such change is accepted."""
+    reading, n, numbers = sheet
+    for place, number in enumerate(numbers):
+        def with_size(word: int) -> Sheet:
+            size = number_of(word) if number > 0.0 else -number_of(word)
+            return reading, n, numbers[:place] + [size] + numbers[place + 1:]
+
+        inside, outside = bits_of(1.0), bits_of(abs(number))
+        if number == 0.0 or not accepted(with_size(inside)):
+            continue
+        while abs(inside - outside) > 1:
+            middle = (inside + outside) // 2
+            if accepted(with_size(middle)):
+                inside = middle
+            else:
+                outside = middle
+        return [with_size(inside), with_size(outside)]
+    return [sheet]
+
+
+def random_edges(rng: random.Random, count: int) -> Iterator[Sheet]:
+    """Random sheets of few stages, carried to the edge of the range."""
+    for _ in range(count):
+        reading, n = rng.choice([1, 2]), rng.randint(1, 4)
+        pair = edge_pair(rng, reading, n, random_sheet(rng, reading, n, random_style(rng)))
+        if pair is not None:
+            yield reading, n, pair[0]
+            yield reading, n, pair[1]
+
+
+def small_sheets(rng: random.Random, count: int) -> Iterator[Sheet]:
+    """Random sheets of few stages and every style, accepted or out of range."""
+    for _ in range(count):
+        reading, n = rng.choice([1, 2]), rng.randint(1, 7)
+        yield reading, n, random_sheet(rng, reading, n, random_style(rng))
+
+
+def accepted_sheet(rng: random.Random, reading: int, n: int, style: Style) -> Sheet:
+    """An accepted sheet of this style, or of one whose rates spread less."""
+    spread, below = style.spread, style.below
+    for _ in range(200):
+        sheet = reading, n, random_sheet(rng, reading, n, Style(style.density, spread, below, style.share))
+        if accepted(sheet):
+            return sheet
+        spread, below = spread * 9 // 10, below * 9 // 10
+    raise ArithmeticError("no accepted sheet of this style")
+
+
+# Dense and sparse; rates over hundreds of binary orders; leaving rates a millionth of the moving rates
+# and far less; stages that are not kept.
+STYLES = [Style(1.0, 3, 20, 0.2), Style(0.1, 200, 0, 0.5), Style(0.3, 30, 60, 0.5), Style(1.0, 100, 0, 1.0),
+          Style(0.6, 0, 200, 0.2), Style(0.1, 30, 20, 1.0), Style(1.0, 30, 400, 0.0), Style(0.3, 150, 60, 0.2)]
+
+
+def every_size(rng: random.Random) -> Iterator[Sheet]:
+    """For each reading and each n from 1 to 32 an accepted sheet."""
+    for reading in (1, 2):
+        for n in range(1, LIMIT + 1):
+            yield accepted_sheet(rng, reading, n, STYLES[(n + 3 * reading) % len(STYLES)])
+
+
+def large_refused(rng: random.Random) -> Iterator[Sheet]:
+    """Large sheets with a bad last number, and one in which cycles of stages are trapped."""
+    for reading, n in ((1, 19), (2, 32)):
+        sheet = random_sheet(rng, reading, n, Style(0.5, 30, 0, 0.5))
+        for last in (NAN, -1.0, 2.0 ** -1074, LARGEST):
+            yield reading, n, sheet[:-1] + [last]
+    n = 20
+    leaving = {0: 1.0, n - 1: 1.0}
+    moves = {(i, (7 * i + 3) % n) for i in range(n)}
+    yield 1, n, [leaving.get(i, 0.0) if i == j else -float((i, j) in moves) for i in range(n) for j in range(n)]
+
+
+def inputs() -> list[bytes]:
+    """What dwell is given."""
+    rng = random.Random(20260101)
+    sheets = DOCUMENT + ORDER + ZEROS + RANGE + ORDERS_OF_STEPS
+    for sheet in steps_out_of_range():
+        sheets.append(sheet)
+        sheets += edge_of(sheet)
+    sheets += random_edges(rng, 40)
+    sheets += small_sheets(rng, 100)
+    sheets += every_size(rng)
+    sheets += large_refused(rng)
+    return damaged_files() + [make_file(*sheet) for sheet in sheets]
+
+
+# ==== The cases and what each writes ====
+
+AREA_NUMBER, AREA_WORD = 0.5, 101       # what the places of an area hold before the call
+ONE_NAN = 0x7FF8000000000000            # how every NaN in an f64 is written
+
+
+class Case(NamedTuple):
+    """The bytes that the program reads, and the text that it must write."""
+    data: bytes
+    text: str
+
+
+def packed(letter: str, words: list[int], rest: bytes = b"") -> bytes:
+    """The letter of a call, 64-bit words, and further bytes."""
+    return letter.encode() + struct.pack(f"<{len(words)}Q", *words) + rest
+
+
+def number_bits(word: int) -> int:
+    """The bits of the f64 that a word becomes: a NaN keeps no payload."""
+    return ONE_NAN if number_of(word) != number_of(word) else word
+
+
+def line(answer: object, handed: list[int], words: list[int]) -> str:
+    """A refusal or zeros, what an accepted call hands over, and words in hexadecimal."""
+    refusal = (answer.number, answer.row, answer.column) if isinstance(answer, Refused) else (0, 0, 0)
+    return "".join(f" {count}" for count in [*refusal, *handed]) + "".join(f" {word:016x}" for word in words) + "\n"
+
+
+def check_accuracy(reading: int, n: int, sheet: list[float], answer: Union[Table, Refused]) -> None:
+    """An accepted table keeps the accuracy rule."""
+    if isinstance(answer, Table) and not all(error.within for error in accuracy(reading, n, sheet, answer.entries)):
+        raise ArithmeticError(f"reading {reading}, {sheet}: not within the allowance")
+
+
+def dwell_case(data: bytes) -> Case:
+    found = table_of_stream(data)
+    if not isinstance(found, Refused):
+        check_accuracy(found[0].reading, found[0].n, found[0].numbers, found[1])
+    return Case(packed("d", [], data), dwell(data))
+
+
+def table_case(reading: int, n: int, sheet: list[float], room: int) -> Case:
+    answer = table(reading, n, sheet, room)
+    check_accuracy(reading, n, sheet, answer)
+    area = [AREA_NUMBER] * room
+    if isinstance(answer, Table):
+        area[:n * n] = answer.entries
+    return Case(packed("t", [reading, n, room, *(bits_of(x) for x in sheet)]),
+                line(answer, [answer.allowance] if isinstance(answer, Table) else [], [bits_of(x) for x in area]))
+
+
+def entry_case(reading: int, n: int, sheet: list[float], i: int, j: int) -> Case:
+    answer = entry(reading, n, sheet, i, j)
+    return Case(packed("e", [reading, n, i, j, *(bits_of(x) for x in sheet)]),
+                line(answer, [], [] if isinstance(answer, Refused) else [bits_of(answer.value)]))
+
+
+def file_case(data: bytes, room: int) -> Case:
+    """Both readers have the same answer, and areas of their own."""
+    answer = load(data, room)
+    words = answer.words if isinstance(answer, Loaded) else []
+    head = [answer.reading, answer.n] if isinstance(answer, Loaded) else []
+    areas = [words + [AREA_WORD] * (room - len(words)),
+             [number_bits(word) for word in words] + [bits_of(AREA_NUMBER)] * (room - len(words))]
+    return Case(packed("f", [room], data), "".join(line(answer, head, area) for area in areas))
+
+
+def both(reading: int, n: int, sheet: list[float]) -> list[Case]:
+    """The whole table with room to spare, and the first entry."""
+    return [table_case(reading, n, sheet, 6), entry_case(reading, n, sheet, 1, 1)]
+
+
+def every_entry(reading: int, sheet: list[float]) -> list[Case]:
+    """A sheet of two stages: its table, and each entry with the stages 0 and 3 next to them."""
+    return [table_case(reading, 2, sheet, 6)] + [entry_case(reading, 2, sheet, i, j) for i in range(4) for j in range(4)]
+
+
+def large(reading: int) -> list[Case]:
+    """A sheet of 32 stages, and some of its entries."""
+    rates = [-1.0, 0.0, -0.1, -3.0, -0.0, -1.0e-7, -1.0e-7]
+    sheet = [1.0e-6 if i == j else rates[(5 * i + 3 * j) % 7] for i in range(LIMIT) for j in range(LIMIT)]
+    return [table_case(reading, LIMIT, sheet, 1030)] + [entry_case(reading, LIMIT, sheet, i, (7 * i) % LIMIT + 1)
+                                                        for i in (1, 2, 9, 17, 31, 32)]
+
+
+def calls() -> list[Case]:
+    """Questions 1 to 5, each before the numbers are looked at, and accepted and refused sheets."""
+    return [
+        *both(0, 0, [NAN]), *both(3, 1, [NAN]), *both(1, 0, []), *both(2, 33, [1.0] * 1089), *both(1, 2 ** 63, [NAN]),
+        table_case(1, 2, [NAN] * 3, 3), table_case(1, 2, [NAN] * 5, 0), entry_case(2, 2, [NAN] * 3, 0, 0),
+        table_case(1, 2, [NAN] * 4, 3), table_case(1, 1, [NAN], 0), entry_case(1, 1, [NAN], 2, 1), *both(1, 1, [NAN]),
+        *every_entry(1, P_SHEET), *every_entry(2, [4.0, -3.0, -1.0, 1.0]), *every_entry(2, [5.0, 0.0, -3.0, 1.0]),
+        *every_entry(1, [1.0, 1.0, -1.0, 0.0]), *every_entry(1, [0.0, -1.0, -1.0, 0.0]),
+        *every_entry(1, [1.0, 0.0, 0.0, 2.0 ** 1022]), *large(1), *large(2)]
+
+
+def changed(data: bytes, at: int, new: bytes) -> bytes:
+    """The file with these bytes in the place of its own."""
+    return data[:at] + new + data[at + len(new):]
+
+
+def damaged(data: bytes, n: int, room: int) -> list[Case]:
+    """A file of n stages, whole and with each kind of damage."""
+    row = 8 + 8 * n
+    cases = [file_case(data[:at], room) for at in range(len(data) + 1)]
+    for start, width in [(0, 10)] + [(at, 8) for at in range(10, len(data), row)]:
+        for at in range(start, start + width):
+            cases.append(file_case(changed(data, at, bytes([(data[at] + 1) % 256])), room))
+        cases.append(file_case(changed(data, start, struct.pack("<I", 2 ** 32 - 1)), room))
+    return cases + [file_case(data + b"\0", room), file_case(data, n * n), file_case(data, n * n - 1)]
+
+
+def cases() -> list[Case]:
+    one_nan = make_file_words(2, 1, [0xFFF4000012345678])
+    return [*(dwell_case(data) for data in inputs()), *calls(), *damaged(make_file(1, 2, P_SHEET), 2, 5),
+            *damaged(one_nan, 1, 5)]
+
+
+def main(arguments: list[str]) -> int:
+    if arguments == ["stdin"]:
+        for case in cases():
+            sys.stdout.buffer.write(struct.pack("<I", len(case.data)) + case.data)
+        return 0
+    if arguments == ["stdout"]:
+        for case in cases():
+            sys.stdout.write(case.text)
+        return 0
+    print("usage: expected.py stdin | expected.py stdout", file=sys.stderr)
+    return 2
+
+
+if __name__ == "__main__":
+    sys.exit(main(sys.argv[1:]))

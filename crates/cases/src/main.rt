@@ -1,0 +1,221 @@
+// Runs the services on cases from standard input, and writes for each what was answered and what the lent area
+// holds afterwards. A case is its length in four little-endian bytes and then so many bytes: a letter for the
+// call, 64-bit words for its numbers, and the bytes of a file where it takes one. expected.py writes the cases.
+ghost use Prim.Native.Nat.{_≤_};
+ghost use lib.ListN.{length};
+use libc::STDIN_FILENO;
+use libc::STDOUT_FILENO;
+use out_places::HeadNumbers;
+
+// No case is longer.
+const LONGEST: usize = 16384;
+
+// More numbers than a sheet or a table has.
+const PLACES: usize = 1100;
+
+// Room for the longest text.
+const ROOM: usize = 32768;
+
+fn write_text(text: &[u8]) {
+    io::write_all(STDOUT_FILENO, text);
+}
+
+fn write_count(count: usize) {
+    write_text(b" ");
+    io::print_decimal(STDOUT_FILENO, count as u64);
+}
+
+fn write_word(word: u64) {
+    write_text(b" ");
+    io::print_hex(STDOUT_FILENO, word, 16);
+}
+
+// The number, row and column of a refusal, 0 each where there is none.
+fn write_refusal(number: usize, row: usize, column: usize) {
+    write_count(number);
+    write_count(row);
+    write_count(column);
+}
+
+// Each number by its bits; every NaN has the same ones.
+fn write_numbers(area: &[f64]) {
+    let mut k = 0;
+    while k < area.len() {
+        write_word(rounding::to_word(area[k]));
+        k += 1;
+    }
+    write_text(b"\n");
+}
+
+fn write_words(area: &[u64]) {
+    let mut k = 0;
+    while k < area.len() {
+        write_word(area[k]);
+        k += 1;
+    }
+    write_text(b"\n");
+}
+
+// Word k behind the letter of a case, and 0 where the case is shorter.
+fn word(case: &[u8], k: usize) -> u64
+    requires { ⌜ k ≤ 2048 ⌝ }
+{
+    let at = 1 + 8 * k;
+    if case.len() < at + 8 {
+        return 0;
+    }
+    records::number_at(case, at, 8)
+}
+
+fn count(case: &[u8], k: usize) -> usize
+    requires { ⌜ k ≤ 2048 ⌝ }
+{
+    word(case, k) as usize
+}
+
+fn least(a: usize, b: usize) -> usize
+    ensures { λ r. ⌜ (r ≤ a) × (r ≤ b) ⌝ }
+{
+    if a < b { a } else { b }
+}
+
+// The numbers behind the first `from` words of a case; returns how many there are.
+fn numbers(case: &[u8], from: usize, sheet: &mut [f64]) -> usize
+    requires { ⌜ (from ≤ 4) × (length (now sheet) ≤ 1100) ⌝ }
+    ensures { λ r. ⌜ r ≤ length (now (sheet .entry)) ⌝ }
+{
+    let given = least(sheet.len(), case.len() / 8 - least(case.len() / 8, from));
+    for k in 0..given {
+        sheet[k] = rounding::from_word(word(case, from + k));
+    }
+    given
+}
+
+// t: reading, n, the length of the answer area, and the sheet's numbers.
+fn try_table(reading: usize, n: usize, sheet: &[f64], area: &mut [f64]) {
+    let told = out_places::table(planner::whole_table(reading, n, sheet, area));
+    write_refusal(told.number, told.row, told.column);
+    if told.accepted {
+        write_count(told.allowance);
+    }
+    write_numbers(area);
+}
+
+fn run_table(case: &[u8]) {
+    let mut sheet = [0.0; PLACES];
+    let given = numbers(case, 3, &mut sheet);
+    let mut area = [0.5; PLACES];
+    let room = least(count(case, 2), PLACES);
+    try_table(
+        count(case, 0),
+        count(case, 1),
+        &sheet[..given],
+        &mut area[..room],
+    );
+}
+
+// e: reading, n, the two stages, and the sheet's numbers.
+fn try_entry(case: &[u8], sheet: &[f64]) {
+    let answer = planner::one_entry(
+        count(case, 0),
+        count(case, 1),
+        sheet,
+        count(case, 2),
+        count(case, 3),
+    );
+    let told = out_places::entry(answer);
+    write_refusal(told.number, told.row, told.column);
+    if told.accepted {
+        write_word(rounding::to_word(told.seconds));
+    }
+    write_text(b"\n");
+}
+
+fn run_entry(case: &[u8]) {
+    let mut sheet = [0.0; PLACES];
+    let given = numbers(case, 4, &mut sheet);
+    try_entry(case, &sheet[..given]);
+}
+
+// f: the length of the area, and a file, which both readers read.
+fn write_head(told: HeadNumbers) {
+    write_refusal(told.number, told.row, told.column);
+    if told.accepted {
+        write_count(told.reading);
+        write_count(told.n);
+    }
+}
+
+fn read_words(bytes: &[u8], area: &mut [u64]) {
+    write_head(out_places::head(file::read_words(bytes, area)));
+    write_words(area);
+}
+
+fn read_numbers(bytes: &[u8], area: &mut [f64]) {
+    write_head(out_places::head(file::read_numbers(bytes, area)));
+    write_numbers(area);
+}
+
+fn run_file(case: &[u8]) {
+    let room = least(count(case, 0), 40);
+    let from = least(9, case.len());
+    let mut words = [101u64; 40];
+    read_words(&case[from..], &mut words[..room]);
+    let mut numbers = [0.5; 40];
+    read_numbers(&case[from..], &mut numbers[..room]);
+}
+
+// d: the input of dwell.
+fn run_dwell(case: &[u8]) {
+    let from = least(1, case.len());
+    let mut text = [0u8; ROOM];
+    let length = report::dwell(&case[from..], &mut text);
+    write_text(&text[..length]);
+}
+
+fn run_case(case: &[u8]) {
+    if case.len() == 0 {
+        return;
+    }
+    let call = case[0];
+    match call {
+        b't' => run_table(case),
+        b'e' => run_entry(case),
+        b'f' => run_file(case),
+        _ => run_dwell(case),
+    }
+}
+
+// The length before the next case; where the input ends, or is no length of a case, one that is too long.
+fn next_length() -> usize {
+    let mut bytes = [0u8; 4];
+    if io::read_full(STDIN_FILENO, &mut bytes) < 4 {
+        return LONGEST + 1;
+    }
+    records::field_at(&bytes, 0, 4)
+}
+
+// Reads a case into the whole of `case` and runs it; whether it came whole.
+fn read_case(case: &mut [u8]) -> bool {
+    let taken = io::read_full(STDIN_FILENO, case);
+    run_case(&case[..taken]);
+    taken == case.len()
+}
+
+// One case, and whether there was one.
+fn next_case() -> bool {
+    let length = next_length();
+    if length > LONGEST {
+        return false;
+    }
+    let mut case = [0u8; LONGEST];
+    read_case(&mut case[..length])
+}
+
+// Nothing says that the input ends, so the loop counts its turns down from a number that no run uses up.
+fn main() {
+    let mut turns = u64::MAX;
+    while turns > 0 && next_case() {
+        turns -= 1;
+    }
+}

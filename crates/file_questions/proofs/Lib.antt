@@ -1,0 +1,2 @@
+pub mod HeadAndRows
+pub mod Judging

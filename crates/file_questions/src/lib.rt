@@ -1,0 +1,106 @@
+// The questions of a sheet file (document 01): 11 to 14 record by record, then 4.
+ghost use mathlib.Core.Path.{_≡_};
+ghost use Prim.Native.Nat.{_+_, _≤_};
+ghost use mathlib.Core.Bool.{_&&_, _||_};
+ghost use lib.Dec.{leb, eqb};
+ghost use lib.ListN.{length, drop};
+ghost use Rattle.definitions.specs.File.{recordLength, goodHead, goodRow, fileAnswer};
+ghost use Rattle.definitions.specs.Services as services;
+ghost use Rattle.answers.specs.Answers.{headGiven};
+use answers::Loaded;
+use records::field_at;
+use records::is_whole;
+
+fn is_reading(reading: usize) -> bool
+    ensures { λ r. ⌜ r ≡ (eqb reading 1 || eqb reading 2) ⌝ }
+{
+    reading == 1 || reading == 2
+}
+
+// Whether a head may hold this reading and this number of stages.
+fn may_hold(reading: usize, n: usize) -> bool
+    ensures { λ r. ⌜ r ≡ ((eqb reading 1 || eqb reading 2) && leb 1 n && leb n 32) ⌝ }
+{
+    if !is_reading(reading) {
+        return false;
+    }
+    if n < 1 {
+        return false;
+    }
+    n <= 32
+}
+
+// Question 12, of a head that the file holds whole.
+fn is_good_head(bytes: &[u8]) -> bool
+    requires { ⌜ 6 + recordLength (now bytes) ≤ length (now bytes) ⌝ }
+    ensures { λ r. ⌜ r ≡ goodHead (now (bytes .entry)) ⌝ }
+{
+    if field_at(bytes, 4, 2) != 1 {
+        return false;
+    }
+    if field_at(bytes, 0, 4) != 4 {
+        return false;
+    }
+    may_hold(field_at(bytes, 6, 2), field_at(bytes, 8, 2))
+}
+
+// Question 13, of the row that starts at `at` and that the file holds whole.
+fn is_good_row(bytes: &[u8], at: usize, n: usize, due: usize) -> bool
+    requires { ⌜ (at + (6 + recordLength (drop at (now bytes))) ≤ length (now bytes)) × (n ≤ 32) ⌝ }
+    ensures { λ r. ⌜ r ≡ goodRow n due (drop at (now (bytes .entry))) ⌝ }
+{
+    if field_at(bytes, at + 4, 2) != 2 {
+        return false;
+    }
+    if field_at(bytes, at, 4) != 2 + 8 * n {
+        return false;
+    }
+    let number = field_at(bytes, at + 6, 2);
+    number == due
+}
+
+// A refusal with a row; the questions about files never have a column.
+fn refused(number: usize, row: usize) -> Loaded
+    ensures { λ r. ⌜ headGiven r ≡ services.refused number row 0 ⌝ }
+{
+    Loaded::Refused {
+        number,
+        row,
+        column: 0,
+    }
+}
+
+// The answer for a file and the length of the lent area: questions 11 to 14, then 4. Questions 1
+// and 2 need no test of their own, for 12 has asked both.
+pub fn judge(bytes: &[u8], room: usize) -> Loaded
+    ensures { λ r. ⌜ headGiven r ≡ fileAnswer (now (bytes .entry)) room ⌝ }
+{
+    if !is_whole(bytes, 0) {
+        return refused(11, 0);
+    }
+    if !is_good_head(bytes) {
+        return refused(12, 0);
+    }
+    let reading = field_at(bytes, 6, 2);
+    let n = field_at(bytes, 8, 2);
+    let mut at = 10;
+    let mut due = 1;
+    while due <= n {
+        if !is_whole(bytes, at) {
+            return refused(11, due);
+        }
+        if !is_good_row(bytes, at, n, due) {
+            return refused(13, due);
+        }
+        at += 8 * n + 8;
+        due += 1;
+    }
+    let places = n * n;
+    if at != bytes.len() {
+        return refused(14, 0);
+    }
+    if room < places {
+        return refused(4, 0);
+    }
+    Loaded::Sheet { reading, n }
+}

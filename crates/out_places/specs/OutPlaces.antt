@@ -1,0 +1,40 @@
+-- An answer of document 01 as numbers: what a call returns, and what it leaves in its out places.
+use mathlib.Core.Path.{_≡_}
+use mathlib.Core.Bool.{Bool, cond}
+use Prim.Native.Nat.{ℕ}
+use Rattle.definitions.specs.File.{Head}
+use Rattle.definitions.specs.Services.{Answer, given, refused}
+
+module _ {A : Type 0} where
+  -- The number, the row and the column of the refusal, and 0 where the call is accepted.
+  unfoldable pub numberOf : Answer A → ℕ
+  numberOf (given value) = 0
+  numberOf (refused number row column) = number
+
+  unfoldable pub rowOf : Answer A → ℕ
+  rowOf (given value) = 0
+  rowOf (refused number row column) = row
+
+  unfoldable pub columnOf : Answer A → ℕ
+  columnOf (given value) = 0
+  columnOf (refused number row column) = column
+
+  -- "No lent place has changed by then": the part of what is handed over, or what the place held before.
+  unfoldable pub handed : {B : Type 0} → (A → B) → Answer A → B → B
+  handed part (given value) before = part value
+  handed part (refused number row column) before = before
+
+-- What every call that can be refused tells: the number returned, and its places for a row and a column.
+pub record Refusal {A : Type 0} (answer : Answer A) (returned atRow atColumn : ℕ) : Type 0 where
+  pub number : returned ≡ numberOf answer
+  pub row : atRow ≡ rowOf answer
+  pub column : atColumn ≡ columnOf answer
+
+-- The place for what is handed over: the value where the call is accepted, and else what it held.
+pub record ValueOut {A : Type 0} (answer : Answer A) (accepted : Bool) (value : A) : Type 0 where
+  pub place : (before : A) → cond accepted value before ≡ handed (λ v. v) answer before
+
+-- The same for the two places of a head.
+pub record HeadOut (answer : Answer Head) (accepted : Bool) (reading n : ℕ) : Type 0 where
+  pub reads : (before : ℕ) → cond accepted reading before ≡ handed (λ head. head .reading) answer before
+  pub stages : (before : ℕ) → cond accepted n before ≡ handed (λ head. head .n) answer before

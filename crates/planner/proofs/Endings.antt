@@ -1,0 +1,126 @@
+-- The promises of the services, for each way that a call can end.
+use mathlib.Core.Path.{_≡_, sym, ap, subst, _∙_}
+use Prim.Native.Nat.{ℕ, _*_, _-_, _<_}
+use native.Mathlib.Omega.{arith}
+use mathlib.Core.Bool.{Bool, true, false}
+use mathlib.Core.List.{List, _++_}
+use lib.Dec.{T}
+use lib.ListN.{length, drop}
+use lib.Ieee.{Float}
+use Rattle.definitions.specs.Fractions.{Fraction}
+use Rattle.definitions.specs.Sheet.{place, allowance}
+use Rattle.definitions.specs.Tables.{rows}
+use Rattle.definitions.specs.Table.{entry}
+use Rattle.definitions.specs.Matrix.{matrix, everyStage}
+use Rattle.definitions.specs.Questions.{pass, refuse, _then_, question1, question2, question3, question4, question5, question10, numberQuestions, tableInput, tableQuestions, entryInput, entryQuestions}
+use Rattle.definitions.specs.Accuracy.{Binary64, Within, Accurate}
+use Rattle.definitions.specs.Services.{given, answer, filled, table, tableAnswer, tableArea, entryAnswer}
+use Rattle.tables.specs.RowMajor as working
+use Rattle.steps.proofs.TableLaws.{length-rows, rows-same, place-of-rows}
+use Rattle.shape.proofs.ShapeQuestions.{entry-input-passed}
+use Rattle.accuracy.proofs.Rule.{accurate-table}
+use Rattle.steps.proofs.QuestionLaws.{never-both, then-first}
+use Rattle.rates_accuracy.proofs.Input.{table-numbers, entry-numbers}
+use Rattle.answers.specs.declared.Table.the-variants as given-table
+use Rattle.answers.specs.declared.Entry.the-variants as given-entry
+use Rattle.readings.specs.Stepped.{Stepped}
+use Rattle.planner.specs.Promises.{TableDone, EntryDone}
+use Rattle.planner.proofs.Asked.{after-refusal, out-of-range, in-range}
+use Rattle.exact.proofs.Bools.{holds}
+
+-- Demand 3 looks only at the entries below n.
+accurate-same : {n E : ℕ} {on : ℕ → Bool} {A : ℕ → ℕ → Fraction} {x : ℕ → ℕ → Float} (y : ℕ → ℕ → Float)
+    → ((i j : ℕ) → i < n → j < n → x i j ≡ y i j) → Accurate n on E A x → Accurate n on E A y
+accurate-same {n} {E} y e a =
+    record {
+      X = a .X;
+      inverse = a .inverse;
+      unique = a .unique;
+      within = λ i j si sj. subst (λ z. Within E z (a .X i j)) (e i j (si .below) (sj .below)) (a .within i j si sj);
+    }
+
+module _ (reading n : ℕ) (sheet : List Float) where
+  -- The whole table: a refusal, in range or not, and the table.
+  module _ (before : List Float) where
+    refused-with : {number row column : ℕ} → tableQuestions reading n sheet (length before) ≡ refuse number row column
+        → TableDone reading n sheet before before (given-table.Refused number row column)
+    unfolding tableAnswer tableArea
+    refused-with e =
+        record {
+          answered = ap (λ q. answer q (allowance reading n)) (sym e);
+          area = ap (λ q. filled q (table reading n sheet) before) (sym e);
+          accurate = λ p. absurd (never-both e p);
+        }
+
+    pub table-refused : {number row column : ℕ} → tableInput reading n sheet (length before) ≡ refuse number row column
+        → TableDone reading n sheet before before (given-table.Refused number row column)
+    unfolding tableQuestions
+    table-refused e = refused-with (after-refusal (question10 reading n sheet) e)
+
+    module _ (passed : tableInput reading n sheet (length before) ≡ pass) {x : List Float} {ok : Bool} (stepped : Stepped reading n sheet ok x) where
+      pub table-out-of-range : ok ≡ false → TableDone reading n sheet before before (given-table.Refused 10 0 0)
+      unfolding tableQuestions
+      table-out-of-range e = refused-with (out-of-range reading n sheet passed (stepped .range) e)
+
+      table-accurate : Binary64 sheet → ok ≡ true → Accurate n everyStage (allowance reading n) (matrix reading n sheet) (entry reading n sheet)
+      unfolding tableInput
+      table-accurate fit e =
+          accurate-table reading n sheet fit
+          (then-first (question1 reading) (question2 n then question3 n (length sheet) then question4 n (length before) then numberQuestions reading n sheet) passed)
+          (table-numbers reading n sheet (length before) passed)
+          (holds (sym (stepped .range) ∙ e))
+
+      pub table-given : {after : List Float} {allowed : ℕ} → Binary64 sheet → ok ≡ true
+          → after ≡ rows (working.table x) n n ++ drop (n * n) before → allowed ≡ allowance reading n
+          → TableDone reading n sheet before after (given-table.Allowed allowed)
+      unfolding tableAnswer tableArea tableQuestions table
+      table-given {after} {allowed} fit e written a =
+          let all-asked = in-range reading n sheet passed (stepped .range) e in
+          let same : after ≡ rows (entry reading n sheet) n n ++ drop (n * n) before = written ∙ ap (λ (xs : List Float). xs ++ drop (n * n) before) (rows-same (working.table x) (entry reading n sheet) n n (stepped .entries (holds e))) in
+          record {
+            answered = ap given a ∙ ap (λ q. answer q (allowance reading n)) (sym all-asked);
+            area =
+                same
+                ∙ ap (λ (k : ℕ). rows (entry reading n sheet) n n ++ drop k before) (sym (length-rows (entry reading n sheet) n n))
+                ∙ ap (λ q. filled q (rows (entry reading n sheet) n n) before) (sym all-asked);
+            accurate = λ p. accurate-same (place n after) (λ i j hi hj. sym (ap (λ (xs : List Float). place n xs i j) same ∙ place-of-rows (entry reading n sheet) n (drop (n * n) before) i j hi hj)) (table-accurate fit e);
+          }
+
+  -- One entry in the same three ways.
+  module _ (i j : ℕ) where
+    entry-refused-with : {number row column : ℕ} → entryQuestions reading n sheet i j ≡ refuse number row column
+        → EntryDone reading n sheet i j (given-entry.Refused number row column)
+    unfolding entryAnswer
+    entry-refused-with e =
+        record {
+          answered = ap (λ q. answer q (entry reading n sheet (i - 1) (j - 1))) (sym e);
+          accurate = λ p. absurd (never-both e p);
+        }
+
+    pub entry-refused : {number row column : ℕ} → entryInput reading n sheet i j ≡ refuse number row column
+        → EntryDone reading n sheet i j (given-entry.Refused number row column)
+    unfolding entryQuestions
+    entry-refused e = entry-refused-with (after-refusal (question10 reading n sheet) e)
+
+    module _ (passed : entryInput reading n sheet i j ≡ pass) {x : List Float} {ok : Bool} (stepped : Stepped reading n sheet ok x) where
+      pub entry-out-of-range : ok ≡ false → EntryDone reading n sheet i j (given-entry.Refused 10 0 0)
+      unfolding entryQuestions
+      entry-out-of-range e = entry-refused-with (out-of-range reading n sheet passed (stepped .range) e)
+
+      entry-accurate : Binary64 sheet → ok ≡ true → Accurate n everyStage (allowance reading n) (matrix reading n sheet) (entry reading n sheet)
+      unfolding entryInput
+      entry-accurate fit e =
+          accurate-table reading n sheet fit
+          (then-first (question1 reading) (question2 n then question3 n (length sheet) then question5 n i j then numberQuestions reading n sheet) passed)
+          (entry-numbers reading n sheet i j passed)
+          (holds (sym (stepped .range) ∙ e))
+
+      pub entry-given : {value : Float} → Binary64 sheet → ok ≡ true → value ≡ working.table x (i - 1) (j - 1) → EntryDone reading n sheet i j (given-entry.Seconds value)
+      unfolding entryAnswer entryQuestions
+      entry-given fit e v =
+          let stages = entry-input-passed reading n sheet i j passed in
+          let seconds = v ∙ stepped .entries (holds e) (i - 1) (j - 1) (omega (arith, stages .1)) (omega (arith, stages .2)) in
+          record {
+            answered = ap given seconds ∙ ap (λ q. answer q (entry reading n sheet (i - 1) (j - 1))) (sym (in-range reading n sheet passed (stepped .range) e));
+            accurate = λ p. entry-accurate fit e;
+          }

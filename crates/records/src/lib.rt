@@ -1,0 +1,40 @@
+// Records of a file (document 01, "The sheet file"): a 4-byte length of the payload, a 2-byte kind, the payload,
+// all little-endian.
+ghost use mathlib.Core.Path.{_≡_};
+ghost use Prim.Native.Nat.{_+_, _≤_};
+ghost use lib.ListN.{length, drop};
+ghost use Rattle.definitions.specs.File.{little, wholeRecord};
+
+// The number in the `width` bytes from `at` on, little-endian: read from the last byte to the first.
+pub fn number_at(bytes: &[u8], at: usize, width: usize) -> u64
+    requires { ⌜ (width ≤ 8) × (at + width ≤ length (now bytes)) ⌝ }
+    ensures { λ r. ⌜ r ≡ little width (drop at (now (bytes .entry))) ⌝ }
+{
+    let mut number: u64 = 0;
+    let mut k = 0;
+    while k < width {
+        k += 1;
+        number = bytes[at + (width - k)] as u64 + 256 * number;
+    }
+    number
+}
+
+// The same for a length, a kind, a reading, a number of stages or a row number.
+pub fn field_at(bytes: &[u8], at: usize, width: usize) -> usize
+    requires { ⌜ (width ≤ 8) × (at + width ≤ length (now bytes)) ⌝ }
+    ensures { λ r. ⌜ r ≡ little width (drop at (now (bytes .entry))) ⌝ }
+{
+    number_at(bytes, at, width) as usize
+}
+
+// Question 11, of the record that starts at `at`.
+pub fn is_whole(bytes: &[u8], at: usize) -> bool
+    requires { ⌜ at ≤ length (now bytes) ⌝ }
+    ensures { λ r. ⌜ r ≡ wholeRecord (drop at (now (bytes .entry))) ⌝ }
+{
+    let left = bytes.len() - at;
+    if left < 6 {
+        return false;
+    }
+    field_at(bytes, at, 4) <= left - 6
+}
