@@ -3,10 +3,10 @@ ghost use Prim.Native.Nat.{_<_};
 ghost use mathlib.Core.Path.{_≡_};
 ghost use Rattle.definitions.specs.Sheet.{place};
 ghost use Rattle.definitions.specs.Questions.{largeEnough};
-ghost use Rattle.shape.specs.Outcome.{asked};
+ghost use Rattle.answers.specs.Outcome.{ComesTo};
 ghost use Rattle.shape.specs.Square.{Square};
 ghost use Rattle.places.specs.PlaceQuestions.{signAt, passes, askPlaces};
-use shape::Asked;
+use answers::Asked;
 
 // The number at place (i, j) of a sheet.
 pub fn number_at(n: usize, i: usize, j: usize, sheet: &[f64]) -> f64
@@ -51,14 +51,18 @@ fn place_passes(question: usize, reading: usize, i: usize, j: usize, x: f64) -> 
 
 // Question 6, 7 or 8 of every place, row by row: the search stops at the first bad place.
 pub fn ask_places(question: usize, reading: usize, n: usize, sheet: &[f64]) -> Asked
-    requires { ⌜ Square n (now sheet) ⌝ }
-    ensures { λ r. ⌜ asked r ≡ askPlaces question reading n (now (sheet .entry)) ⌝ }
+    requires { ⌜ Square n (now sheet) × (0 < question) ⌝ }
+    ensures { λ r. ⌜ ComesTo (askPlaces question reading n (now (sheet .entry))) (r .number) (r .row) (r .column) ⌝ }
 {
-    let mut answer = Asked::Pass;
+    let mut answer = Asked {
+        number: 0,
+        row: 0,
+        column: 0,
+    };
     'rows: for i in 0..n {
         for j in 0..n {
             if !place_passes(question, reading, i, j, number_at(n, i, j, sheet)) {
-                answer = Asked::Refuse {
+                answer = Asked {
                     number: question,
                     row: i + 1,
                     column: j + 1,

@@ -1,17 +1,11 @@
 -- What the questions before 10 came to, and question 10 after them.
-use mathlib.Core.Path.{_≡_, sym, ap, _∙_}
+use mathlib.Core.Path.{_≡_}
 use Prim.Native.Nat.{ℕ}
 use mathlib.Core.Bool.{Bool, true, false}
 use mathlib.Core.List.{List}
 use lib.Ieee.{Float}
 use Rattle.definitions.specs.Table.{everyStepInRange}
-use Rattle.shape.specs.declared.Asked as shape
-use Rattle.shape.specs.Outcome.{asked}
 use Rattle.definitions.specs.Questions.{Asked, pass, refuse, _then_, question10}
-
--- The code's answer r to the questions q is v.
-pub told : {r v : shape.Asked} {q : Asked} → asked r ≡ q → r ≡ v → q ≡ asked v
-told e z = sym e ∙ ap asked z
 
 pub after-refusal : {q : Asked} {number row column : ℕ} (next : Asked) → q ≡ refuse number row column → (q then next) ≡ refuse number row column
 after-refusal next e = rw e

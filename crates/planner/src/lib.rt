@@ -6,7 +6,6 @@ ghost use Rattle.definitions.specs.Questions.{pass, tableInput, entryInput};
 ghost use Rattle.planner.specs.Promises.{TableDone, EntryDone};
 use answers::Entry;
 use answers::Table;
-use shape::Asked;
 use tables::row;
 
 // The whole table of a sheet that passed questions 1 to 9. Nothing is written before question 10 passes too.
@@ -33,18 +32,14 @@ pub fn whole_table(reading: usize, n: usize, sheet: &[f64], answer: &mut [f64]) 
     ensures { λ r. ⌜ TableDone reading n (now (sheet .entry)) (now (answer .entry)) (now (answer .exit)) r ⌝ }
 {
     let asked = sheet::table_input(reading, n, sheet, answer.len());
-    match asked {
-        Asked::Pass => table_of_sheet(reading, n, sheet, answer),
-        Asked::Refuse {
-            number,
-            row,
-            column,
-        } => Table::Refused {
-            number,
-            row,
-            column,
-        },
+    if asked.number != 0 {
+        return Table::Refused {
+            number: asked.number,
+            row: asked.row,
+            column: asked.column,
+        };
     }
+    table_of_sheet(reading, n, sheet, answer)
 }
 
 // Entry (i, j), counted from 1, of a sheet that passed questions 1 to 9.
@@ -70,16 +65,12 @@ pub fn one_entry(reading: usize, n: usize, sheet: &[f64], i: usize, j: usize) ->
     ensures { λ r. ⌜ EntryDone reading n (now (sheet .entry)) i j r ⌝ }
 {
     let asked = sheet::entry_input(reading, n, sheet, i, j);
-    match asked {
-        Asked::Pass => entry_of_sheet(reading, n, sheet, i, j),
-        Asked::Refuse {
-            number,
-            row,
-            column,
-        } => Entry::Refused {
-            number,
-            row,
-            column,
-        },
+    if asked.number != 0 {
+        return Entry::Refused {
+            number: asked.number,
+            row: asked.row,
+            column: asked.column,
+        };
     }
+    entry_of_sheet(reading, n, sheet, i, j)
 }

@@ -1,3 +1,2 @@
-pub mod Outcome
 pub mod Square
 pub mod ShapeQuestions

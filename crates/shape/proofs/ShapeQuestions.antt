@@ -1,6 +1,8 @@
 -- Questions 1, 2 and 3 with those after them, and what is known of a call once they passed.
-use mathlib.Core.Path.{_≡_, ap, _∙_}
-use mathlib.Core.Bool.{_&&_}
+use mathlib.Core.Path.{_≡_, sym, ap, _∙_}
+use mathlib.Core.Bool.{true, false, not, _&&_, _||_}
+use borrow.Author.Tests.{not-false, eq-eqb, ne-eqb, leb-true}
+use native.Mathlib.Omega.{arith}
 use mathlib.Core.List.{List}
 use Prim.Native.Nat.{ℕ, _*_, _≤_}
 use lib.Dec.{T, leb, eqb, leb→le, eqb→eq}
@@ -9,12 +11,15 @@ use lib.Ieee.{Float}
 use lib.Ieee.Fits.{and-l, and-r}
 use Rattle.definitions.specs.Questions.{Asked, pass, _then_, question1, question2, question3, question4, question5, numberQuestions, tableInput, entryInput}
 use Rattle.steps.proofs.QuestionLaws.{then-first, then-next, then-assoc, ask-yes}
+use Rattle.answers.specs.Outcome.{ComesTo}
+use Rattle.answers.proofs.Outcome.{all-pass, no, asked-no, asked-yes}
+use Rattle.exact.proofs.Bools.{and-second}
 use Rattle.shape.specs.Square.{Square}
 
 is-stage : (k n : ℕ) → T (leb 1 k && leb k n) → (1 ≤ k) × (k ≤ n)
 is-stage k n t = (leb→le 1 k (and-l (leb 1 k) (leb k n) t), leb→le k n (and-r (leb 1 k) (leb k n) t))
 
-pub few-stages : (n : ℕ) → question2 n ≡ pass → n ≤ 32
+few-stages : (n : ℕ) → question2 n ≡ pass → n ≤ 32
 unfolding question2
 few-stages n e = is-stage n 32 (ask-yes (leb 1 n && leb n 32) 2 0 0 e) .1
 
@@ -29,12 +34,57 @@ all-pairs n held e = eqb→eq held (n * n) (ask-yes (eqb held (n * n)) 3 0 0 e)
 abbrev pub shapeThen : ℕ → ℕ → ℕ → Asked → Asked
 shapeThen reading n held rest = question1 reading then question2 n then question3 n held then rest
 
+-- What the first three come to, by the tests of the code.
 module _ (reading n held : ℕ) where
-  pub shape-next : (rest : Asked) → ((question1 reading then question2 n then question3 n held) then rest) ≡ shapeThen reading n held rest
-  shape-next rest =
-      then-assoc (question1 reading) (question2 n then question3 n held) rest
-      ∙ ap (λ q. question1 reading then q) (then-assoc (question2 n) (question3 n held) rest)
+  abbrev shape : Asked
+  shape = question1 reading then question2 n then question3 n held
 
+  pub bad-reading : not (eqb reading 1 || eqb reading 2) ≡ true → ComesTo shape 1 0 0
+  unfolding question1
+  bad-reading e = no (λ z. omega arith) (rw (asked-no (eqb reading 1 || eqb reading 2) 1 0 0 e))
+
+  module _ (first : not (eqb reading 1 || eqb reading 2) ≡ false) where
+    pub bad-stages : not (leb 1 n && leb n 32) ≡ true → ComesTo shape 2 0 0
+    unfolding question1 question2
+    bad-stages e = no (λ z. omega arith) (rw (asked-yes (eqb reading 1 || eqb reading 2) 1 0 0 first, asked-no (leb 1 n && leb n 32) 2 0 0 e))
+
+    module _ (second : not (leb 1 n && leb n 32) ≡ false) where
+      pub bad-length : (held ≡ n * n → ⊥) → ComesTo shape 3 0 0
+      unfolding question1 question2 question3
+      bad-length h =
+          no (λ z. omega arith)
+          (rw (asked-yes (eqb reading 1 || eqb reading 2) 1 0 0 first, asked-yes (leb 1 n && leb n 32) 2 0 0 second, ne-eqb held (n * n) h))
+
+      pub good-shape : held ≡ n * n → ComesTo shape 0 0 0
+      unfolding question1 question2 question3
+      good-shape e =
+          all-pass
+          (rw (asked-yes (eqb reading 1 || eqb reading 2) 1 0 0 first, asked-yes (leb 1 n && leb n 32) 2 0 0 second, eq-eqb held (n * n) e))
+
+      pub few-passed : n ≤ 32
+      few-passed = leb-true n 32 (and-second (leb 1 n) (leb n 32) (not-false (leb 1 n && leb n 32) second))
+
+-- And question 5.
+module _ (n i j : ℕ) where
+  pub bad-entry : not (leb 1 i && leb i n && (leb 1 j && leb j n)) ≡ true → ComesTo (question5 n i j) 5 0 0
+  unfolding question5
+  bad-entry e = no (λ z. omega arith) (asked-no (leb 1 i && leb i n && (leb 1 j && leb j n)) 5 0 0 e)
+
+  pub good-entry : not (leb 1 i && leb i n && (leb 1 j && leb j n)) ≡ false → ComesTo (question5 n i j) 0 0 0
+  unfolding question5
+  good-entry e = all-pass (asked-yes (leb 1 i && leb i n && (leb 1 j && leb j n)) 5 0 0 e)
+
+-- Three questions and one more, and these with what comes after.
+pub shape-next : (reading n held : ℕ) (rest : Asked) {number row column : ℕ}
+    → ComesTo ((question1 reading then question2 n then question3 n held) then rest) number row column → ComesTo (shapeThen reading n held rest) number row column
+shape-next reading n held rest q =
+    record {
+      is =
+          sym (then-assoc (question1 reading) (question2 n then question3 n held) rest ∙ ap (λ q. question1 reading then q) (then-assoc (question2 n) (question3 n held) rest))
+          ∙ q .is;
+    }
+
+module _ (reading n held : ℕ) where
   pub shape-then : (own rest : Asked) → (shapeThen reading n held own then rest) ≡ shapeThen reading n held (own then rest)
   shape-then own rest =
       then-assoc (question1 reading) (question2 n then question3 n held then own) rest

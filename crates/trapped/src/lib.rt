@@ -5,12 +5,12 @@ ghost use mathlib.Core.Path.{_≡_};
 ghost use mathlib.Core.Bool.{false};
 ghost use lib.ListN.{getD};
 ghost use Rattle.definitions.specs.Questions.{question9, getsOut, askStages};
-ghost use Rattle.shape.specs.Outcome.{asked};
+ghost use Rattle.answers.specs.Outcome.{ComesTo};
 ghost use Rattle.shape.specs.Square.{Square};
 ghost use Rattle.marks.specs.Marks.{isMarked, Marked};
 ghost use Rattle.trapped.specs.NextStage.{NextStage};
+use answers::Asked;
 use marks::Marks;
-use shape::Asked;
 
 // The first marked stage that is not done, or n.
 fn next_stage(n: usize, marks: Marks, done: &[bool; 32]) -> usize
@@ -48,27 +48,35 @@ fn reach(n: usize, sheet: &[f64]) -> Marks
 // Refuses the lowest stage that is not marked.
 fn ask_marked(n: usize, marks: Marks) -> Asked
     requires { ⌜ n ≤ 32 ⌝ }
-    ensures { λ r. ⌜ asked r ≡ askStages (isMarked marks) 9 0 n ⌝ }
+    ensures { λ r. ⌜ ComesTo (askStages (isMarked marks) 9 0 n) (r .number) (r .row) (r .column) ⌝ }
 {
     for i in 0..n {
         if !marks.marked[i] {
-            return Asked::Refuse {
+            return Asked {
                 number: 9,
                 row: i + 1,
                 column: 0,
             };
         }
     }
-    Asked::Pass
+    Asked {
+        number: 0,
+        row: 0,
+        column: 0,
+    }
 }
 
 // Question 9. That it names the lowest trapped stage is a theorem (crates/steps/specs/Trapped.antt).
 pub fn ask_trapped(reading: usize, n: usize, sheet: &[f64]) -> Asked
     requires { ⌜ Square n (now sheet) ⌝ }
-    ensures { λ r. ⌜ asked r ≡ question9 reading n (now (sheet .entry)) ⌝ }
+    ensures { λ r. ⌜ ComesTo (question9 reading n (now (sheet .entry))) (r .number) (r .row) (r .column) ⌝ }
 {
     if reading != 1 {
-        return Asked::Pass;
+        return Asked {
+            number: 0,
+            row: 0,
+            column: 0,
+        };
     }
     ask_marked(n, reach(n, sheet))
 }

@@ -1,28 +1,32 @@
 -- `places::ask_places` meets its contract. Assumes nothing.
-use mathlib.Core.Path.{_≡_, refl, sym, ap, _∙_}
+use mathlib.Core.Path.{_≡_, refl, _∙_}
 use Prim.Native.Nat.{_≤_, _-_, zero-le}
 use native.Mathlib.Omega.{arith}
 use borrow.Author.Needs.{needs}
 use borrow.Author.Tests.{not-true, not-false}
 use denote.Ref.{now}
-use Rattle.shape.specs.declared.Asked.the-variants.{Pass}
-use Rattle.shape.specs.Outcome.{asked}
+use Rattle.answers.specs.declared.Asked.{Asked}
+use Rattle.answers.proofs.Outcome.{all-pass, no}
 use Rattle.steps.proofs.Searches.{fromRow, fromPlace, enter-row, good-place, bad-place, leave-row, no-row}
 use Rattle.places.specs.PlaceQuestions.{askPlaces}
 use Rattle.places.proofs.PlaceQuestions.{placePasses, place-tested, search-rows}
 use Rattle.places.proofs.ask_places.Statement.{statement}
 use Rattle.places.proofs.ask_places.Tie as tie
 
+-- No bad place so far.
+abbrev none : Asked
+none = record { number = 0; row = 0; column = 0 }
+
 abbrev Inv-loop : tie.InvT-loop
 Inv-loop question reading n sheet answer₀ i j₀ answer j =
-    (j ≤ n) × (answer ≡ Pass) × (askPlaces question reading n sheet ≡ fromPlace (placePasses reading n sheet question) question n i j)
+    (j ≤ n) × (answer ≡ none) × (askPlaces question reading n sheet ≡ fromPlace (placePasses reading n sheet question) question n i j)
 
 abbrev μ-loop : tie.MeasureT-loop
 μ-loop question reading n sheet answer₀ i j₀ answer j = n - j
 
 abbrev Inv-rows : tie.InvT-rows
 Inv-rows question reading n sheet answer₀ i₀ answer i =
-    (i ≤ n) × (answer ≡ Pass) × (askPlaces question reading n sheet ≡ fromRow (placePasses reading n sheet question) question n i)
+    (i ≤ n) × (answer ≡ none) × (askPlaces question reading n sheet ≡ fromRow (placePasses reading n sheet question) question n i)
 
 abbrev μ-rows : tie.MeasureT-rows
 μ-rows question reading n sheet answer₀ i₀ answer i = n - i
@@ -45,11 +49,11 @@ rows-again : tie.Need-rows-again Inv-loop μ-loop Inv-rows μ-rows
 rows-again c = (omega arith, c .before .loop .inv .1, c .before .loop .inv .2 ∙ leave-row _ _ _ _ _ (c .loop-test .left))
 
 returns : tie.Need-returns Inv-loop μ-loop Inv-rows μ-rows
-returns c = ap asked (c .before .rows .inv .1) ∙ sym (c .before .rows .inv .2 ∙ no-row _ _ _ _ (c .rows-test .left))
+returns c = rw (c .before .rows .inv .1) (all-pass (c .before .rows .inv .2 ∙ no-row _ _ _ _ (c .rows-test .left)))
 
 returns-2 : tie.Need-returns-2 Inv-loop μ-loop Inv-rows μ-rows
 returns-2 c =
-    sym
+    no (λ z. omega arith)
     (c .before .before .before .before .loop .inv .2
     ∙ bad-place _ _ _ _ _ (c .before .before .before .loop-test .taken) (tested (c .before) ∙ not-true _ (c .if1 .taken)))
 
