@@ -9,7 +9,7 @@ const ROOM: usize = 32768;
 // The input is read until its end, in whatever pieces it comes, or until the area is full: one byte more
 // than the longest file.
 fn main() {
-    let mut input = [0u8; report::MOST];
+    let mut input = [0u8; file::MOST];
     let taken = io::read_full(STDIN_FILENO, &mut input);
     let mut text = [0u8; ROOM];
     let length = report::dwell(&input[..taken], &mut text);

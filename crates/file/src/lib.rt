@@ -1,9 +1,11 @@
 // Reading a sheet file into a lent area, of 64-bit words or of f64. The whole file is judged
 // before the first place is written.
 ghost use mathlib.Core.Path.{_≡_};
-ghost use Prim.Native.Nat.{_*_, _≤_, _<_};
+ghost use mathlib.Core.Bool.{cond};
+ghost use Prim.Native.Nat.{suc, _*_, _≤_, _<_};
+ghost use lib.Dec.{ltb};
 ghost use lib.ListN.{length, getD};
-ghost use Rattle.definitions.specs.File.{fileWords, fileNumbers, fileAnswer, fileWordArea, fileNumberArea};
+ghost use Rattle.definitions.specs.File.{longestFile, fileWords, fileNumbers, fileAnswer, fileWordArea, fileNumberArea};
 ghost use Rattle.definitions.specs.Questions.{pass};
 ghost use Rattle.definitions.specs.Services.{filled};
 ghost use Rattle.answers.specs.Answers.{headGiven};
@@ -66,4 +68,17 @@ pub fn read_numbers(bytes: &[u8], area: &mut [f64]) -> Loaded
         fill_numbers(bytes, n, area);
     }
     answer
+}
+
+// One byte more than the longest file: dwell takes no more of its input.
+pub const MOST: usize = 8459;
+
+// How many bytes of an input of `held` bytes dwell judges.
+pub fn judged(held: usize) -> usize
+    ensures { λ r. ⌜ r ≡ cond (ltb held (suc longestFile)) held (suc longestFile) ⌝ }
+{
+    if held < MOST {
+        return held;
+    }
+    MOST
 }

@@ -1,18 +1,12 @@
 // The text that dwell prints for the bytes of a sheet file, made as a whole in a lent buffer.
-ghost use mathlib.Core.Path.{_≡_};
-ghost use mathlib.Core.Bool.{cond};
-ghost use Prim.Native.Nat.{suc, _≤_};
-ghost use lib.Dec.{ltb};
+ghost use Prim.Native.Nat.{_≤_};
 ghost use lib.ListN.{length};
 ghost use Rattle.definitions.specs.Services.{tableAnswer};
-ghost use Rattle.definitions.specs.File.{fileAnswer, longestFile};
+ghost use Rattle.definitions.specs.File.{fileAnswer};
 ghost use Rattle.definitions.specs.Dwell.{tableText, fileText, dwellText};
 ghost use Rattle.digits.specs.Pasted.{AtStart};
 ghost use Rattle.report.specs.Reported.{Reported};
 use answers::Loaded;
-
-// One byte more than the longest file: dwell takes no more of its input.
-pub const MOST: usize = 8459;
 
 // The text for a sheet: its table is made in an area of its own.
 fn table_text(reading: usize, n: usize, sheet: &[f64], out: &mut [u8]) -> usize
@@ -45,21 +39,11 @@ pub fn answer(bytes: &[u8], out: &mut [u8]) -> usize
     }
 }
 
-// How many bytes of an input of `held` bytes are judged.
-fn judged(held: usize) -> usize
-    ensures { λ r. ⌜ r ≡ cond (ltb held (suc longestFile)) held (suc longestFile) ⌝ }
-{
-    if held < MOST {
-        return held;
-    }
-    MOST
-}
-
 // What dwell prints for an input of any length: the text for its first bytes, in the same way.
 pub fn dwell(input: &[u8], out: &mut [u8]) -> usize
     requires { ⌜ 32768 ≤ length (now out) ⌝ }
     ensures { λ r. ⌜ Reported (dwellText (now (input .entry))) (now (out .entry)) (now (out .exit)) r ⌝ }
 {
-    let most = judged(input.len());
+    let most = file::judged(input.len());
     answer(&input[..most], out)
 }

@@ -1,8 +1,8 @@
--- `report::judged` meets its contract: the constant is one more than the length of the longest file. Assumes nothing.
+-- `file::judged` meets its contract: the constant is one more than the length of the longest file. Assumes nothing.
 use borrow.Author.Tests.{lt-ltb, le-ltb}
 use Rattle.definitions.specs.File.{fileLength, longestFile}
-use Rattle.report.proofs.judged.Statement.{statement}
-use Rattle.report.proofs.judged.Tie as tie
+use Rattle.file.proofs.judged.Statement.{statement}
+use Rattle.file.proofs.judged.Tie as tie
 
 returns : tie.Need-returns
 unfolding longestFile fileLength
