@@ -1,3 +1,2 @@
 mod IdentityRows
-mod Turns
 mod Passing

@@ -23,8 +23,9 @@ use Rattle.passes.specs.RowPass.{turn, reach, staged, stagedInRange, passed, pa
 use Rattle.passes.proofs.Told.{ToldEach, told-from, told-turns, told-begins, told-exactly, told-ends}
 use Rattle.passes.proofs.RowPass.{turns, staged-same, passed-done}
 use Rattle.passes.proofs.ColumnPasses.{waits}
-use Rattle.columns.specs.Columns.{skipped, Skips, RowBecomes, PassStarts, PassDone}
-use Rattle.columns.proofs.Turns.{turn-below, turn-apart, reach-below}
+use Rattle.turns.specs.Turns.{skipped, Skips, RowBecomes}
+use Rattle.columns.specs.Columns.{PassStarts, PassDone}
+use Rattle.turns.proofs.Turns.{turn-below, turn-apart, reach-below}
 
 module _ (r : ℕ) (falling : Bool) (g f : ℕ → ℕ → Float) where
   abbrev κ : ℕ → ℕ

@@ -13,7 +13,7 @@ ghost use Rattle.bounds.specs.Bounds.{Covering};
 ghost use Rattle.ranges.specs.Quick.{productsAt};
 ghost use Rattle.passes.specs.Told.{Told, FiniteRow};
 ghost use Rattle.passes.specs.RowPass.{turn, reach, staged, stagedInRange, identityRows, dividedRows, quotientsInRange};
-ghost use Rattle.columns.specs.Columns.{skipped, firstDone, Skips, RowBecomes, PassStarts, PassDone};
+ghost use Rattle.columns.specs.Columns.{PassStarts, PassDone};
 
 // The identity of r × r.
 pub fn identity(r: usize, b: &mut [f64; 1024])
@@ -26,60 +26,17 @@ pub fn identity(r: usize, b: &mut [f64; 1024])
     }
 }
 
-// The row of turn q.
-fn turn(r: usize, falling: bool, q: usize) -> usize
-    requires { ⌜ (q < r) × (r ≤ 32) ⌝ }
-    ensures { λ i. ⌜ i ≡ turn r falling q ⌝ }
-{
-    if falling {
-        return r - 1 - q;
-    }
-    q
-}
-
-// The columns in which the row of turn q is added.
-fn reach(r: usize, falling: bool, q: usize) -> usize
-    requires { ⌜ (q < r) × (r ≤ 32) ⌝ }
-    ensures { λ c. ⌜ c ≡ reach r falling q ⌝ }
-{
-    if falling {
-        return r;
-    }
-    q + 1
-}
-
-// The first turn that changes anything in the columns from j on.
-fn skipped(falling: bool, j: usize) -> usize
-    ensures { λ q. ⌜ q ≡ skipped falling j ⌝ }
-{
-    if falling {
-        return 0;
-    }
-    j
-}
-
-// The first of the s rows that are done before turn s.
-fn first_done(r: usize, falling: bool, s: usize) -> usize
-    requires { ⌜ (s ≤ r) × (r ≤ 32) ⌝ }
-    ensures { λ i. ⌜ i ≡ firstDone r falling s ⌝ }
-{
-    if falling {
-        return r - s;
-    }
-    0
-}
-
 // The products of turn s, one by one.
 fn products_told(r: usize, falling: bool, s: usize, t: &[f64; 1024], b: &[f64; 1024]) -> bool
     requires { ⌜ (s < r) × (r ≤ 32) × IsTable (now t) × IsTable (now b) ⌝ }
     ensures { λ ok. ⌜ ok ≡ all (λ q. productsAt (reach r falling q) (table (now (t .entry)) (turn r falling s)) (table (now (b .entry))) (turn r falling q)) 0 s ⌝ }
 {
-    let i = turn(r, falling, s);
+    let i = turns::turn(r, falling, s);
     let mut ok = true;
     for q in 0..s {
-        let k = turn(r, falling, q);
+        let k = turns::turn(r, falling, q);
         let m = row::get(i, k, t);
-        let products = ranges::products_in_range(k, m, 0, reach(r, falling, q), b);
+        let products = ranges::products_in_range(k, m, 0, turns::reach(r, falling, q), b);
         ok = ok & products;
     }
     ok
@@ -90,26 +47,11 @@ fn row_told(r: usize, falling: bool, s: usize, lo: f64, t: &[f64; 1024], b: &[f6
     requires { ⌜ (s < r) × (r ≤ 32) × IsTable (now t) × IsTable (now b) × ((q : ℕ) → q < s → Covering lo (table (now b) (turn r falling q)) 0 (reach r falling q)) ⌝ }
     ensures { λ ok. let κ = turn r falling in let g = table (now (t .entry)) in let f = table (now (b .entry)) in ⌜ Told ok (stagedInRange κ (reach r falling) g f (κ s) s) (FiniteRow r (staged κ g f (κ s) s)) ⌝ }
 {
-    let from = first_done(r, falling, s);
-    if ranges::row_quick(turn(r, falling, s), from, from + s, lo, t) {
+    let from = turns::first_done(r, falling, s);
+    if ranges::row_quick(turns::turn(r, falling, s), from, from + s, lo, t) {
         return true;
     }
     products_told(r, falling, s, t, b)
-}
-
-// The rows that are done are added to the row of turn s, block by block.
-fn add_done(r: usize, falling: bool, s: usize, t: &[f64; 1024], b: &mut [f64; 1024])
-    requires { ⌜ (s < r) × (r ≤ 32) × IsTable (now t) × IsTable (now b) × Skips r falling s (table (now t)) (table (now b)) ⌝ }
-    ensures { λ _. let κ = turn r falling in ⌜ RowBecomes (κ s) r (staged κ (table (now (t .entry))) (table (now (b .entry))) (κ s) s) (now (b .entry)) (now (b .exit)) ⌝ }
-{
-    let i = turn(r, falling, s);
-    let width = reach(r, falling, s);
-    for block in 0..(width + 7) / 8 {
-        let j = 8 * block;
-        let from = skipped(falling, j);
-        let first = turn(r, falling, from);
-        blocks::add_rows(i, j, first, s - from, falling, t, b);
-    }
 }
 
 // The downward or the upward steps, and whether they are in range: lo bounds the rows that are done. The
@@ -121,10 +63,10 @@ pub fn pass(r: usize, falling: bool, t: &[f64; 1024], b: &mut [f64; 1024]) -> bo
     let mut ok = true;
     let mut lo = 1.0;
     for s in 1..r {
-        lo = bounds::least(lo, turn(r, falling, s - 1), 0, reach(r, falling, s - 1), b);
+        lo = bounds::least(lo, turns::turn(r, falling, s - 1), 0, turns::reach(r, falling, s - 1), b);
         let told = row_told(r, falling, s, lo, t, b);
         ok = ok & told;
-        add_done(r, falling, s, t, b);
+        turns::add_done(r, falling, s, t, b);
     }
     ok
 }

@@ -8,7 +8,7 @@ use Rattle.tables.specs.RowMajor.{table}
 use Rattle.bounds.proofs.Bounds.{bound-one}
 use Rattle.passes.specs.RowPass.{turn, reach}
 use Rattle.passes.proofs.Told.{ToldEach, told-turns}
-use Rattle.columns.proofs.Turns.{turn-below, reach-below}
+use Rattle.turns.proofs.Turns.{turn-below, reach-below}
 use Rattle.columns.proofs.Passing.{Passing, turnTest, TurnFinite, passing-begins, told-begins-pass, all-covered, turn-told, turn-done, passing-skips, passing-ends}
 use Rattle.columns.proofs.pass.Statement.{statement}
 use Rattle.columns.proofs.pass.Tie as tie

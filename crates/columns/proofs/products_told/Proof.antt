@@ -8,7 +8,7 @@ use Rattle.steps.proofs.Gathering.{Gathered, gathered-begins, gathered-turns, g
 use Rattle.passes.specs.RowPass.{turn, reach}
 use Rattle.ranges.specs.Quick.{productsAt}
 use Rattle.ranges.proofs.Multiples.{products-at}
-use Rattle.columns.proofs.Turns.{turn-below, reach-below}
+use Rattle.turns.proofs.Turns.{turn-below, reach-below}
 use Rattle.columns.proofs.products_told.Statement.{statement}
 use Rattle.columns.proofs.products_told.Tie as tie
 

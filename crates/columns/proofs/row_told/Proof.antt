@@ -5,7 +5,7 @@ use borrow.Author.Needs.{needs}
 use Rattle.tables.specs.RowMajor.{table}
 use Rattle.passes.specs.RowPass.{turn, reach}
 use Rattle.ranges.proofs.PassTests.{staged-by-products, staged-by-bound}
-use Rattle.columns.proofs.Turns.{turn-below, reach-below, done-fits, done-from, done-to}
+use Rattle.turns.proofs.Turns.{turn-below, reach-below, done-fits, done-from, done-to}
 use Rattle.columns.proofs.row_told.Statement.{statement}
 use Rattle.columns.proofs.row_told.Tie as tie
 

@@ -1,9 +1,9 @@
--- `columns::reach` meets its contract. Assumes nothing.
+-- `turns::reach` meets its contract. Assumes nothing.
 use native.Mathlib.Omega.{arith}
 use borrow.Author.Needs.{needs}
 use Rattle.passes.specs.RowPass.{reach}
-use Rattle.columns.proofs.reach.Statement.{statement}
-use Rattle.columns.proofs.reach.Tie as tie
+use Rattle.turns.proofs.reach.Statement.{statement}
+use Rattle.turns.proofs.reach.Tie as tie
 
 returns : tie.Need-returns
 unfolding reach

@@ -15,7 +15,7 @@ use Rattle.tables.proofs.Operators.{replace-same, between-in, between-low, betw
 use Rattle.passes.specs.RowPass.{turn, reach, staged}
 use Rattle.passes.proofs.RowPass.{staged-next, staged-same, staged-from}
 use Rattle.blocks.specs.Blocks.{nth, Reaches}
-use Rattle.columns.specs.Columns.{skipped, firstDone, Skips, RowBecomes}
+use Rattle.turns.specs.Turns.{skipped, firstDone, Skips, RowBecomes}
 
 -- ---- the rows in their order
 module _ (r : ℕ) (few : r ≤ 32) where

@@ -1,14 +1,14 @@
--- `columns::add_done` meets its contract: the blocks before the one that is due are done. Assumes nothing.
+-- `turns::add_done` meets its contract: the blocks before the one that is due are done. Assumes nothing.
 use mathlib.Core.Path.{_≡_, refl}
 use Prim.Native.Nat.{_≤_, _<_, _+_, _*_, _-_, _/_}
 use native.Mathlib.Omega.{arith}
 use borrow.Author.Needs.{needs}
 use Rattle.tables.specs.RowMajor.{table}
 use Rattle.passes.specs.RowPass.{turn, reach}
-use Rattle.columns.specs.Columns.{skipped}
-use Rattle.columns.proofs.Turns.{turn-below, reach-below, skipped-below, skipped-reaches, Blocks, blocks-begin, blocks-turn, blocks-end}
-use Rattle.columns.proofs.add_done.Statement.{statement}
-use Rattle.columns.proofs.add_done.Tie as tie
+use Rattle.turns.specs.Turns.{skipped}
+use Rattle.turns.proofs.Turns.{turn-below, reach-below, skipped-below, skipped-reaches, Blocks, blocks-begin, blocks-turn, blocks-end}
+use Rattle.turns.proofs.add_done.Statement.{statement}
+use Rattle.turns.proofs.add_done.Tie as tie
 
 abbrev Inv-loop : tie.InvT-loop
 Inv-loop r falling s t b₀ i width block₀ block-end b block = (block ≤ block-end) × Blocks r falling s (table t) (table b₀) b (8 * block)

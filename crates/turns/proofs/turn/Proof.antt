@@ -1,9 +1,9 @@
--- `columns::turn` meets its contract. Assumes nothing.
+-- `turns::turn` meets its contract. Assumes nothing.
 use native.Mathlib.Omega.{arith}
 use borrow.Author.Needs.{needs}
 use Rattle.passes.specs.RowPass.{turn}
-use Rattle.columns.proofs.turn.Statement.{statement}
-use Rattle.columns.proofs.turn.Tie as tie
+use Rattle.turns.proofs.turn.Statement.{statement}
+use Rattle.turns.proofs.turn.Tie as tie
 
 returns : tie.Need-returns
 unfolding turn

@@ -1,9 +1,9 @@
--- `columns::first_done` meets its contract. Assumes nothing.
+-- `turns::first_done` meets its contract. Assumes nothing.
 use native.Mathlib.Omega.{arith}
 use borrow.Author.Needs.{needs}
-use Rattle.columns.specs.Columns.{firstDone}
-use Rattle.columns.proofs.first_done.Statement.{statement}
-use Rattle.columns.proofs.first_done.Tie as tie
+use Rattle.turns.specs.Turns.{firstDone}
+use Rattle.turns.proofs.first_done.Statement.{statement}
+use Rattle.turns.proofs.first_done.Tie as tie
 
 returns : tie.Need-returns
 unfolding firstDone

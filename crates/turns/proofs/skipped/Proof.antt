@@ -1,9 +1,9 @@
--- `columns::skipped` meets its contract. Assumes nothing.
+-- `turns::skipped` meets its contract. Assumes nothing.
 use native.Mathlib.Omega.{arith}
 use borrow.Author.Needs.{needs}
-use Rattle.columns.specs.Columns.{skipped}
-use Rattle.columns.proofs.skipped.Statement.{statement}
-use Rattle.columns.proofs.skipped.Tie as tie
+use Rattle.turns.specs.Turns.{skipped}
+use Rattle.turns.proofs.skipped.Statement.{statement}
+use Rattle.turns.proofs.skipped.Tie as tie
 
 returns : tie.Need-returns
 unfolding skipped
