@@ -1,56 +1,29 @@
--- The laws behind one stage: a row, the loops over the rows, and the whole.
+-- The laws behind one stage: its multipliers, and the whole.
 use mathlib.Core.Path.{_≡_, refl, ap, _∙_}
-use Prim.Native.Nat.{ℕ, suc, _+_, _≤_, _<_}
+use Prim.Native.Nat.{ℕ, suc, _+_}
 use native.Mathlib.Nat.{le-refl}
-use native.Mathlib.Numerals.{add-one}
-use native.Mathlib.Omega.{arith}
 use mathlib.Core.Bool.{Bool, _&&_}
 use mathlib.Core.List.{List}
-use lib.Dec.{T}
 use lib.Ieee.{Float}
 use lib.Ieee.Fits.{and-l}
-use Rattle.definitions.specs.Numbers.{_⊕_, _⊗_, _⊘_}
-use Rattle.definitions.specs.LeavingRates.{pivot}
+use Rattle.definitions.specs.Numbers.{_⊘_}
 use Rattle.tables.specs.RowMajor.{table, Holds}
-use Rattle.tables.specs.Operators.{replace, between, put, span}
-use Rattle.tables.specs.Rows.{plusMultiple}
-use Rattle.tables.proofs.Operators.{put-replaced}
-use Rattle.tables.proofs.Loops.{Down, down-due, down-else, down-turns, down-puts}
+use Rattle.tables.specs.Operators.{put}
+use Rattle.tables.proofs.Loops.{Down, down-due, down-puts}
 use Rattle.passes.specs.Told.{Told, Finds}
-use Rattle.passes.specs.Multipliers.{systemIn}
-use Rattle.passes.specs.Stages.{IsStage, rowTest, rowTests, multiplierRow, multipliedRows, eliminatedRow, eliminatedRows, stageDone}
+use Rattle.passes.specs.Stages.{IsStage, rowTest, rowTests, multiplierRow, multipliedRows, eliminatedRows, stageDone}
 use Rattle.passes.specs.StageTests.{RowFinite, StageFinite, pivotTested, stageTested, StageFinds}
 use Rattle.passes.proofs.Told.{told-from, told-both, told-exactly}
-
--- The sums along row i, then its leaving rate.
-pub row-eliminated : (r k i : ℕ) (s : Float) (f : ℕ → ℕ → Float) {m e : Float} {xs ys : List Float}
-    → Holds xs (span i (k + 1) r (plusMultiple m (f i) (f k)) f)
-    → Holds ys (put i i e (table xs))
-    → m ≡ f i k
-    → e ≡ f i i ⊕ m ⊗ s
-    → Holds ys (replace i (eliminatedRow r k s f i) f)
-unfolding span eliminatedRow
-row-eliminated r k i s f {m} {e} h₁ h₂ a b =
-    record {
-      long = h₂ .long;
-      is = h₂ .is ∙ rw (h₁ .is, put-replaced i i e (between (k + 1) r (plusMultiple m (f i) (f k)) (f i)) f, add-one k, b, a);
-    }
+use Rattle.schur.proofs.SchurRows.{pivot-row}
 
 -- Down the rows after k. Row k is as at the start.
 module _ {k : ℕ} {g f : ℕ → ℕ → Float} {xs : List Float} {i : ℕ} (h : Down (suc k) g f xs i) where
-  pivot-row : table xs k ≡ f k
-  pivot-row = down-else h k (λ l m. omega arith)
-
   pub row-told : (r : ℕ) (p : Float) {ok : Bool} → Told ok (rowTest r k i p (table xs i) (table xs k)) (RowFinite r k i p (table xs i) (table xs k)) → Told ok (rowTest r k i p (f i) (f k)) (RowFinite r k i p (f i) (f k))
-  row-told r p t = rw (down-due h i (le-refl i), pivot-row) at t
+  row-told r p t = rw (down-due h i (le-refl i), pivot-row h) at t
 
 pub multiplied-turns : {k : ℕ} {f : ℕ → ℕ → Float} {xs : List Float} {i : ℕ} (p : Float) → Down (suc k) (multiplierRow k p f) f xs i → {m : Float} {ys : List Float} → Holds ys (put i k m (table xs)) → m ≡ table xs i k ⊘ p → Down (suc k) (multiplierRow k p f) f ys (i + 1)
 unfolding multiplierRow
 multiplied-turns {k} {f} {xs} {i} p h w e = down-puts h k w (e ∙ ap (λ (row : ℕ → Float). row k ⊘ p) (down-due h i (le-refl i))) refl
-
-pub eliminated-turns : {k : ℕ} {f : ℕ → ℕ → Float} {xs : List Float} {i : ℕ} (r : ℕ) (s : Float) → Down (suc k) (eliminatedRow r k s f) f xs i → {ys : List Float} → Holds ys (replace i (eliminatedRow r k s (table xs) i) (table xs)) → Down (suc k) (eliminatedRow r k s f) f ys (i + 1)
-unfolding eliminatedRow
-eliminated-turns {k} {f} {xs} {i} r s h w = down-turns h {row = eliminatedRow r k s (table xs) i} w (rw (down-due h i (le-refl i), pivot-row h))
 
 -- The stage: its pivot's test, its multipliers, its rows, its pivot.
 pub stage-eliminated : (r k : ℕ) (f : ℕ → ℕ → Float) {s p : Float} {pivots rows : Bool} {xs ys zs : List Float}

@@ -1,34 +1,14 @@
 // One stage of the steps that serve every column of b, on the table t of sizes and leaving rates: s_i
 // stands at place (i, i) until stage i is done, and p_i afterwards; the multiplier of row i at stage k
 // takes the place (i, k), which no later step reads as a size.
+use schur::Stage;
 use tables::row;
 ghost use Prim.Native.Nat.{_≤_, _<_};
-ghost use Rattle.tables.specs.RowMajor.{IsTable, table, Holds};
-ghost use Rattle.tables.specs.Operators.{replace};
+ghost use Rattle.tables.specs.RowMajor.{IsTable, table};
 ghost use Rattle.bounds.specs.Bounds.{Covering};
 ghost use Rattle.passes.specs.Told.{Finds};
-ghost use Rattle.passes.specs.Stages.{IsStage, rowTests, multipliedRows, eliminatedRow, eliminatedRows};
+ghost use Rattle.passes.specs.Stages.{rowTests, multipliedRows};
 ghost use Rattle.passes.specs.StageTests.{StageFinite, StageFinds};
-
-// A stage's running sum s and pivot p.
-struct Stage {
-    s: f64,
-    p: f64,
-}
-
-// Stage k's running sum and pivot: s_k, and s_k with the sizes after the diagonal added, rising.
-fn begin(r: usize, k: usize, t: &[f64; 1024]) -> Stage
-    requires { ⌜ (k < r) × (r ≤ 32) × IsTable (now t) ⌝ }
-    ensures { λ stage. ⌜ IsStage r k (table (now (t .entry))) (stage .s) (stage .p) ⌝ }
-{
-    let s = row::get(k, k, t);
-    let mut p = s;
-    for j in k + 1..r {
-        let x = row::get(k, j, t);
-        p = p + x;
-    }
-    Stage { s, p }
-}
 
 // The multipliers of stage k's rows, and whether the rows' steps are in range. They have a loop of their
 // own, since the sums of a row would wait for its division.
@@ -46,38 +26,17 @@ fn multipliers(r: usize, k: usize, stage: Stage, lo: f64, t: &mut [f64; 1024]) -
     ok
 }
 
-// Row i at stage k, whose multiplier stands in column k. The loop over the row runs over the diagonal
-// too, so the new s_i is made before and stored after it.
-fn eliminate_row(r: usize, k: usize, i: usize, stage: Stage, t: &mut [f64; 1024])
-    requires { ⌜ (k < i) × (i < r) × (r ≤ 32) × IsTable (now t) ⌝ }
-    ensures { λ _. let f = table (now (t .entry)) in ⌜ Holds (now (t .exit)) (replace i (eliminatedRow r k (stage .s) f i) f) ⌝ }
-{
-    let m = row::get(i, k, t);
-    let s = row::get(i, i, t) + m * stage.s;
-    row::add_multiple(i, k, m, k + 1, r, t);
-    row::put(i, i, s, t);
-}
-
-fn eliminate_rows(r: usize, k: usize, stage: Stage, t: &mut [f64; 1024])
-    requires { ⌜ (k < r) × (r ≤ 32) × IsTable (now t) ⌝ }
-    ensures { λ _. ⌜ Holds (now (t .exit)) (eliminatedRows r k (stage .s) r (table (now (t .entry)))) ⌝ }
-{
-    for i in k + 1..r {
-        eliminate_row(r, k, i, stage, t);
-    }
-}
-
 // Stage k, and whether its pivot is finite and its rows' steps are in range. The answer is left open
 // where a result of the rows is not finite.
 pub fn eliminate(r: usize, k: usize, t: &mut [f64; 1024]) -> bool
     requires { ⌜ (k < r) × (r ≤ 32) × IsTable (now t) ⌝ }
     ensures { λ ok. ⌜ StageFinds r k (table (now (t .entry))) ok (now (t .exit)) ⌝ }
 {
-    let stage = begin(r, k, t);
+    let stage = schur::begin(r, k, t);
     let pivot = ranges::pivot_told(r, stage.p);
     let lo = bounds::least(1.0, k, k, r, t);
     let rows = multipliers(r, k, stage, lo, t);
-    eliminate_rows(r, k, stage, t);
+    schur::eliminate_rows(r, k, stage, t);
     row::put(k, k, stage.p, t);
     pivot & rows
 }

@@ -1,4 +1,4 @@
--- `stage::begin` meets its contract: at column j the sizes before it are added. Assumes nothing.
+-- `schur::begin` meets its contract: at column j the sizes before it are added. Assumes nothing.
 use Prim.Native.Nat.{_≤_, _-_, suc}
 use native.Mathlib.Numerals.{add-one}
 use native.Mathlib.Omega.{arith}
@@ -6,8 +6,8 @@ use borrow.Author.Needs.{needs}
 use Rattle.definitions.specs.LeavingRates.{pivot}
 use Rattle.tables.specs.RowMajor.{table}
 use Rattle.steps.proofs.Gathering.{Summed, summed-begins, summed-turns, summed-ends}
-use Rattle.stage.proofs.begin.Statement.{statement}
-use Rattle.stage.proofs.begin.Tie as tie
+use Rattle.schur.proofs.begin.Statement.{statement}
+use Rattle.schur.proofs.begin.Tie as tie
 
 abbrev Inv-loop : tie.InvT-loop
 Inv-loop r k t s p₀ j₀ p j = (j ≤ r) × Summed (table t k k) (table t k) (suc k) j p

@@ -1,9 +1,9 @@
--- `stage::eliminate_row` meets its contract. Assumes nothing.
+-- `schur::eliminate_row` meets its contract. Assumes nothing.
 use borrow.Author.Needs.{needs}
 use Rattle.tables.specs.RowMajor.{table}
-use Rattle.stage.proofs.StageSteps.{row-eliminated}
-use Rattle.stage.proofs.eliminate_row.Statement.{statement}
-use Rattle.stage.proofs.eliminate_row.Tie as tie
+use Rattle.schur.proofs.SchurRows.{row-eliminated}
+use Rattle.schur.proofs.eliminate_row.Statement.{statement}
+use Rattle.schur.proofs.eliminate_row.Tie as tie
 
 returns : tie.Need-returns
 returns c =

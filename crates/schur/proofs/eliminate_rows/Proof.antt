@@ -1,4 +1,4 @@
--- `stage::eliminate_rows` meets its contract: at row i the rows from k + 1 before it are done. Assumes nothing.
+-- `schur::eliminate_rows` meets its contract: at row i the rows from k + 1 before it are done. Assumes nothing.
 use Prim.Native.Nat.{_≤_, _-_, suc}
 use native.Mathlib.Numerals.{add-one}
 use native.Mathlib.Omega.{arith}
@@ -6,9 +6,9 @@ use borrow.Author.Needs.{needs}
 use Rattle.tables.specs.RowMajor.{table}
 use Rattle.tables.proofs.Loops.{Down, down-begins, down-ends}
 use Rattle.passes.specs.Stages.{eliminatedRow, eliminatedRows}
-use Rattle.stage.proofs.StageSteps.{eliminated-turns}
-use Rattle.stage.proofs.eliminate_rows.Statement.{statement}
-use Rattle.stage.proofs.eliminate_rows.Tie as tie
+use Rattle.schur.proofs.SchurRows.{eliminated-turns}
+use Rattle.schur.proofs.eliminate_rows.Statement.{statement}
+use Rattle.schur.proofs.eliminate_rows.Tie as tie
 
 abbrev Inv-loop : tie.InvT-loop
 Inv-loop r k stage t₀ i₀ t i = (i ≤ r) × Down (suc k) (eliminatedRow r k (stage .s) (table t₀)) (table t₀) t i
