@@ -79,7 +79,7 @@ pub fn quotients(r: usize, t: &[f64; 1024], b: &mut [f64; 1024]) -> bool
     let mut ok = true;
     for i in 0..r {
         let p = row::get(i, i, t);
-        let row = row::divide(i, p, r, b);
+        let row = rows::divide(i, p, r, b);
         ok = ok & row;
     }
     ok

@@ -8,7 +8,7 @@ ghost use Rattle.compact.specs.Listing.{marked};
 ghost use Rattle.joins.specs.Columns.{knows, Factors, KnownSum, PlaceFilled, ColumnFilled, Joined};
 ghost use Rattle.joins.specs.Joins.{StageJoins, StagesJoin};
 use tables::row;
-use tables::row::Sum;
+use rows::Sum;
 use tables::vector;
 
 // The stages that are known as stage c joins: the kept ones and those above c.

@@ -1,8 +1,8 @@
 -- The kept system in the code is document 01's, and so are its tests.
 use mathlib.Core.Path.{_≡_, refl, sym, ap, ap₂, _∙_}
-use Prim.Native.Nat.{ℕ, zero, suc, _+_, _-_, _≤_, _<_, zero-le}
+use Prim.Native.Nat.{ℕ, suc, _-_, _<_, zero-le}
 use native.Mathlib.Omega.{arith}
-use mathlib.Core.Bool.{Bool, true, false, not, _&&_, _||_}
+use mathlib.Core.Bool.{Bool, true, not, _&&_, _||_}
 use mathlib.Core.List.{List}
 use lib.Dec.{T, eqb, ltb, ltb→lt}
 use lib.ListN.{getD}
@@ -12,8 +12,7 @@ use borrow.Author.Tests.{lt-ltb, eq-eqb, ne-eqb}
 use Rattle.exact.proofs.Cases.{by-equal}
 use Rattle.exact.proofs.Bools.{holds, same-truth, or-assoc, if-in, if-out}
 use Rattle.definitions.specs.Numbers.{_⊗_, _⊘_, 0·0, finite, mulInRange, divInRange, sum, sumInRange, all}
-use Rattle.definitions.specs.LeavingRates.{System}
-use Rattle.definitions.specs.Margins.{stagesWith, rank, keptSystem, scaledInRange}
+use Rattle.definitions.specs.Margins.{stagesWith, rank, scaledInRange}
 use Rattle.rounding.proofs.RoundedSums.{total-in-range, total-finite}
 use Rattle.steps.proofs.All.{each, every, all-same, each-below, every-below, all-below, all-both}
 use Rattle.steps.proofs.FloatSums.{sum-same}
@@ -27,7 +26,8 @@ use Rattle.compact.specs.Listing.{marked, stageAt, Listing}
 use Rattle.compact.specs.Compact.{Packed}
 use Rattle.compact.proofs.Listings.{listing-at, listing-stage, listing-same, all-listed}
 use Rattle.ratios.specs.Ratios.{ratio, diagonalOf, isKept}
-use Rattle.kept.specs.Scaled.{Shares, inOrder, times, sizesInRange, rate, rateInRange, scaledRow, rowInRange, RowsScaled, KeptList, KeptSystem}
+use Rattle.shares.specs.Shares.{Shares}
+use Rattle.kept.specs.Scaled.{inOrder, times, sizesInRange, rate, rateInRange, scaledRow, rowInRange, RowsScaled, KeptList, KeptSystem}
 
 zero-finite : T (finite 0·0)
 unfolding finite

@@ -3,22 +3,14 @@ use mathlib.Core.Path.{_≡_}
 use Prim.Native.Nat.{ℕ, suc, _-_, _<_}
 use mathlib.Core.Bool.{Bool, not, _&&_, _||_}
 use mathlib.Core.List.{List}
-use lib.Dec.{eqb, ltb}
+use lib.Dec.{eqb}
 use lib.Ieee.{Float}
-use Rattle.definitions.specs.Numbers.{_⊗_, _⊘_, 0·0, finite, mulInRange, divInRange, sum, all}
+use Rattle.definitions.specs.Numbers.{_⊗_, 0·0, finite, mulInRange, sum, all}
 use Rattle.definitions.specs.Margins as Margins
 use Rattle.tables.specs.RowMajor.{IsTable, table, Holds}
 use Rattle.tables.specs.Operators.{replace, between, span}
-use Rattle.tables.specs.Vectors.{IsVector, vector}
-use Rattle.definitions.specs.LeavingRates.{System}
 use Rattle.compact.specs.Listing.{marked, stageAt, Listing}
 use Rattle.ratios.specs.Ratios.{ratio, isKept, RatiosBefore}
-
--- The shares d_j / a_j of the stages below m, of which those above a kept stage are tested.
-pub record Shares (kept : ℕ → Bool) (d a : ℕ → Float) (m : ℕ) (ok : Bool) (ws : List Float) : Type 0 where
-  pub long : IsVector ws
-  pub range : ok ≡ all (λ j. not (ltb 0 (Margins.rank kept j)) || divInRange (d j) (a j)) 0 m
-  pub are : (j : ℕ) → j < m → vector ws j ≡ d j ⊘ a j
 
 -- A vector in the order of a list of stages.
 abbrev pub inOrder : List ℕ → (ℕ → Float) → ℕ → Float

@@ -1,33 +1,12 @@
 // The system of the kept stages in compact order: the new sizes off the diagonal, the new leaving rates on
 // it (document 01, "Steps for margins").
-ghost use mathlib.Core.Path.{_≡_};
 ghost use Prim.Native.Nat.{_≤_, _<_};
-ghost use lib.ListN.{length};
 ghost use Rattle.tables.specs.RowMajor.{IsTable, table};
 ghost use Rattle.tables.specs.Vectors.{IsVector, vector};
-ghost use Rattle.compact.specs.Listing.{marked, Stages};
-ghost use Rattle.kept.specs.Scaled.{Shares, inOrder, SizesScaled, RowScaled, RowsScaled, KeptList, KeptSystem};
+ghost use Rattle.compact.specs.Listing.{Stages};
+ghost use Rattle.kept.specs.Scaled.{inOrder, SizesScaled, RowScaled, RowsScaled, KeptList, KeptSystem};
 use tables::row;
 use tables::vector;
-
-// The shares d_j / a_j of the stages; true if those above a kept stage are in range.
-fn shares(n: usize, d: &[f64; 32], a: &[f64; 32], kept: &[bool; 32], w: &mut [f64; 32]) -> bool
-    requires { ⌜ (n ≤ 32) × IsVector (now d) × IsVector (now a) × (length (now kept) ≡ 32) × IsVector (now w) ⌝ }
-    ensures { λ ok. ⌜ Shares (marked (now (kept .entry))) (vector (now (d .entry))) (vector (now (a .entry))) n ok (now (w .exit)) ⌝ }
-{
-    let mut ok = true;
-    let mut above = false;
-    for j in 0..n {
-        let x = vector::get(j, d);
-        let y = vector::get(j, a);
-        let share = x / y;
-        let step = rounding::result_in_range(x, y, share);
-        ok = ok & (!above | step);
-        above = above | kept[j];
-        vector::put(j, share, w);
-    }
-    ok
-}
 
 // Row p of the packed sizes, each times k of its column's stage; true if these steps are in range. There
 // is none on the diagonal, where the leaving rate comes.
@@ -65,7 +44,7 @@ fn system_row(
 {
     let sizes = scale_row(r, p, stages, k, s);
     let i = compact::stage(p, stages);
-    let rate = row::dot(i, i + 1, n, t, w);
+    let rate = rows::dot(i, i + 1, n, t, w);
     row::put(p, p, rate.value, s);
     let finite = rounding::is_finite(rate.value);
     sizes & rate.ok & finite
@@ -108,7 +87,7 @@ pub fn system(
     ensures { λ ok. ⌜ KeptSystem n (table (now (t .entry))) (vector (now (d .entry))) r ok (now (s .exit)) ⌝ }
 {
     let mut w = [0.0; 32];
-    let divisions = shares(n, d, a, kept, &mut w);
+    let divisions = shares::shares(n, d, a, kept, &mut w);
     compact::pack(r, stages, t, s);
     let rows = system_rows(n, r, stages, t, k, &w, s);
     divisions & rows

@@ -37,7 +37,7 @@ fn stage(
     requires { ⌜ (i < n) × (n ≤ 32) × IsTable (now t) × IsVector (now d) × RatiosBefore n (table (now t)) (vector (now d)) i (now a) (now k) (now kept) ⌝ }
     ensures { λ ok. ⌜ StageTested n (table (now (t .entry))) (vector (now (d .entry))) i ok (now (a .exit)) (now (k .exit)) (now (kept .exit)) ⌝ }
 {
-    let before = row::dot(i, 0, i, t, k);
+    let before = rows::dot(i, 0, i, t, k);
     let sum = sum_after(n, i, before.value, t);
     let margin = vector::get(i, d);
     let diagonal = margin + sum;

@@ -34,7 +34,7 @@ fn eliminate_row(r: usize, k: usize, i: usize, stage: Stage, t: &mut [f64; 1024]
 {
     let m = row::get(i, k, t);
     let s = row::get(i, i, t) + m * stage.s;
-    row::add_multiple(i, k, m, k + 1, r, t);
+    rows::add_multiple(i, k, m, k + 1, r, t);
     row::put(i, i, s, t);
 }
 

@@ -1,4 +1,4 @@
--- `kept::shares` meets its contract: at stage j the stages before it are done and tested. Assumes nothing.
+-- `shares::shares` meets its contract: at stage j the stages before it are done and tested. Assumes nothing.
 use mathlib.Core.Path.{_≡_, ap₂, _∙_}
 use Prim.Native.Nat.{_≤_, _-_}
 use native.Mathlib.Omega.{arith}
@@ -9,10 +9,10 @@ use Rattle.definitions.specs.Margins.{rank}
 use Rattle.rounding.proofs.ResultRange.{quotient-test}
 use Rattle.tables.specs.Vectors.{vector}
 use Rattle.compact.specs.Listing.{marked}
-use Rattle.kept.specs.Scaled.{Shares}
-use Rattle.kept.proofs.ScaledRows.{above-none, above-turns, shares-begin, shares-turn, shares-end}
-use Rattle.kept.proofs.shares.Statement.{statement}
-use Rattle.kept.proofs.shares.Tie as tie
+use Rattle.shares.specs.Shares.{Shares}
+use Rattle.shares.proofs.Sharing.{above-none, above-turns, shares-begin, shares-turn, shares-end}
+use Rattle.shares.proofs.shares.Statement.{statement}
+use Rattle.shares.proofs.shares.Tie as tie
 
 abbrev Inv-loop : tie.InvT-loop
 Inv-loop n d a kept w₀ ok₀ above₀ j₀ w ok above j = (j ≤ n) × Shares (marked kept) (vector d) (vector a) j ok w × (above ≡ ltb 0 (rank (marked kept) j))

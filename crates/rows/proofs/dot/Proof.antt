@@ -1,4 +1,4 @@
--- `tables::row::dot` meets its contract: at column j the products before it are added and tested. Assumes nothing.
+-- `rows::dot` meets its contract: at column j the products before it are added and tested. Assumes nothing.
 use mathlib.Core.Path.{refl, _∙_, ap₂}
 use Prim.Native.Nat.{_≤_, _-_}
 use native.Mathlib.Omega.{arith}
@@ -7,10 +7,10 @@ use Rattle.definitions.specs.Numbers.{_⊗_, 0·0, mulInRange}
 use Rattle.rounding.proofs.Words.{zero-word}
 use Rattle.rounding.proofs.ResultRange.{product-test}
 use Rattle.steps.proofs.Gathering.{Gathered, gathered-begins, gathered-turns, gathered-ends, Summed, summed-begins, summed-turns, summed-ends}
 use Rattle.tables.specs.RowMajor.{table}
 use Rattle.tables.specs.Vectors.{vector}
-use Rattle.tables.proofs.row.dot.Statement.{statement}
-use Rattle.tables.proofs.row.dot.Tie as tie
+use Rattle.rows.proofs.dot.Statement.{statement}
+use Rattle.rows.proofs.dot.Tie as tie
 
 abbrev Inv-loop : tie.InvT-loop
 Inv-loop i lo hi a v sum₀ ok₀ j₀ sum ok j =

@@ -1,14 +1,14 @@
--- `tables::row::add_multiple` meets its contract: at column j the columns before it are done. Assumes nothing.
+-- `rows::add_multiple` meets its contract: at column j the columns before it are done. Assumes nothing.
 use mathlib.Core.Path.{refl, _∙_}
 use Prim.Native.Nat.{_≤_, _-_}
 use native.Mathlib.Omega.{arith}
 use borrow.Author.Needs.{needs}
 use Rattle.tables.specs.RowMajor.{table}
 use Rattle.tables.specs.Rows.{plusMultiple}
 use Rattle.tables.proofs.Loops.{Along, along-begins, along-due, along-else, along-turns, along-ends}
 use Rattle.tables.proofs.Rows.{plus-multiple}
-use Rattle.tables.proofs.row.add_multiple.Statement.{statement}
-use Rattle.tables.proofs.row.add_multiple.Tie as tie
+use Rattle.rows.proofs.add_multiple.Statement.{statement}
+use Rattle.rows.proofs.add_multiple.Tie as tie
 
 abbrev Inv-loop : tie.InvT-loop
 Inv-loop i k m lo hi a₀ j₀ a j = (j ≤ hi) × Along i lo (plusMultiple m (table a₀ i) (table a₀ k)) (table a₀) a j

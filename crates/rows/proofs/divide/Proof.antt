@@ -1,16 +1,16 @@
--- `tables::row::divide` meets its contract: at column j the columns before it are done and tested. Assumes nothing.
+-- `rows::divide` meets its contract: at column j the columns before it are done and tested. Assumes nothing.
 use mathlib.Core.Path.{refl, _∙_}
 use Prim.Native.Nat.{_≤_, _-_}
 use native.Mathlib.Omega.{arith}
 use borrow.Author.Needs.{needs}
 use Rattle.rounding.proofs.ResultRange.{quotient-test}
 use Rattle.tables.specs.RowMajor.{table}
 use Rattle.tables.specs.Rows.{over, overInRange}
 use Rattle.steps.proofs.Gathering.{Gathered, gathered-begins, gathered-turns, gathered-all}
 use Rattle.tables.proofs.Loops.{Along, along-begins, along-due, along-turns, along-ends}
 use Rattle.tables.proofs.Rows.{over-is, over-test}
-use Rattle.tables.proofs.row.divide.Statement.{statement}
-use Rattle.tables.proofs.row.divide.Tie as tie
+use Rattle.rows.proofs.divide.Statement.{statement}
+use Rattle.rows.proofs.divide.Tie as tie
 
 abbrev Inv-loop : tie.InvT-loop
 Inv-loop i p r a₀ ok₀ j₀ a ok j = (j ≤ r) × Along i 0 (over p (table a₀ i)) (table a₀) a j × Gathered (overInRange p (table a₀ i)) 0 j ok
