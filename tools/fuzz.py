@@ -1,7 +1,7 @@
 #!/usr/bin/env python3
 """Random, damaged and edge calls of every function that the library for hosts exports, each held to the reference.
 
-    python3 tools/fuzz.py [--calls N] [--seed S] [--only NAME]
+    python3 tools/fuzz.py [--calls N] [--seed S] [--only NAME] [--archive FILE]
 
 makes N calls of each export (10,000 if not said) in this process and compares the number returned, every out
 place and every place of every lent area, before and after, bit for bit (`tools/hosts.py`).  The calls depend
@@ -19,6 +19,7 @@ import tempfile
 import time
 from collections import Counter
 from dataclasses import dataclass
+from pathlib import Path
 from typing import Callable, Sequence
 
 from hosts import PLACES, TEXT_BYTES, Calls, Difference, Library, declared
@@ -232,6 +233,7 @@ def parsed(arguments: Sequence[str]) -> argparse.Namespace:
     parser.add_argument("--calls", type=int, default=10000, metavar="N", help="calls of each export")
     parser.add_argument("--seed", type=int, default=1, metavar="S", help="another seed makes other calls")
     parser.add_argument("--only", default=None, metavar="NAME", choices=sorted(EXPORTS), help="one export")
+    parser.add_argument("--archive", type=Path, default=None, metavar="FILE", help="this archive, and build none")
     return parser.parse_args(arguments)
 
 
@@ -242,7 +244,7 @@ def main(arguments: Sequence[str]) -> int:
         print(f"not in the header, or not fuzzed: {sorted(set(EXPORTS) ^ set(declared()))}")
         return 1
     with tempfile.TemporaryDirectory() as folder:
-        library = Library(folder)
+        library = Library(folder, options.archive)
         names = [options.only] if options.only else list(EXPORTS)
         done = [fuzz(library, name, options.calls, options.seed) for name in names]
     return 0 if all(done) else 1

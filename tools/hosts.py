@@ -1,7 +1,7 @@
 """The library for hosts in this process, each call held to the reference.
 
-`Library` builds target/staticlib/libhosts.a by `rt staticlib hosts`, makes a shared object of it and loads
-that.  `Calls` makes single calls: every lent area and out place stands between guards and holds random bits
+`Library` builds target/staticlib/libhosts.a by `rt staticlib hosts`, or takes an archive that is there, makes a
+shared object of it and loads that.  `Calls` makes single calls: every lent area and out place stands between guards and holds random bits
 before the call, and afterwards the number returned and every place are those that `tools/reference.py`
 gives.  A `Difference` says what is not.  The environment variable CC names the C compiler.
 """
@@ -62,10 +62,11 @@ def declared() -> dict[str, list[str]]:
 class Library:
     """The archive as a shared object; parameters go in the order in which the header declares them."""
 
-    def __init__(self, folder: str) -> None:
-        must("rt", "staticlib", "hosts")
+    def __init__(self, folder: str, archive: Optional[Path] = None) -> None:
+        if archive is None:
+            must("rt", "staticlib", "hosts")
         shared = str(Path(folder) / "libhosts.so")
-        must(*CC, "-shared", "-Wl,--whole-archive", str(ARCHIVE), "-Wl,--no-whole-archive", "-o", shared)
+        must(*CC, "-shared", "-Wl,--whole-archive", str(archive or ARCHIVE), "-Wl,--no-whole-archive", "-o", shared)
         library = ctypes.CDLL(shared)
         self.parameters = declared()
         self.functions = {}

@@ -1,7 +1,6 @@
 -- A refusal ends the questions, and a pass goes on to the next.
 use mathlib.Core.Path.{_≡_, refl, _∙_}
 use Prim.Native.Nat.{ℕ, zero, suc}
-use native.Mathlib.Omega.{arith}
 use mathlib.Core.Bool.{Bool, true, false, not}
 use borrow.Author.Tests.{not-true, not-false}
 use Rattle.definitions.specs.Questions.{Asked, pass, refuse, _then_, ask}

@@ -3,7 +3,6 @@ use mathlib.Core.Path.{sym, _∙_}
 use mathlib.Core.Logic.{inl, inr}
 use Prim.Native.Nat.{_<_}
 use native.Mathlib.Nat.{le-refl, eq-zero-or-pos}
-use mathlib.Core.Bool.{_||_}
 use lib.Dec.{T}
 use lib.Ieee.{Float, binary64, lt, fits}
 use Rattle.exact.proofs.Bools.{or-r}

@@ -4,22 +4,21 @@ use Prim.Native.Nat.{ℕ, zero, suc, _+_, _-_, _≤_, _<_}
 use native.Mathlib.Nat.{le-refl, sub-zero}
 use native.Mathlib.Numerals.{add-one}
 use native.Mathlib.Omega.{arith}
-use mathlib.Core.Bool.{Bool, true, false, _&&_, cond}
+use mathlib.Core.Bool.{Bool, true, false}
 use mathlib.Core.List.{List}
-use lib.Dec.{T, eqb}
+use lib.Dec.{T}
 use lib.Ieee.{Float}
 use Rattle.exact.proofs.Cases.{by-equal, by-order}
-use Rattle.definitions.specs.Numbers.{0·0, 1·0, finite, all}
-use Rattle.steps.proofs.All.{each, every, all-same}
+use Rattle.definitions.specs.Numbers.{all}
+use Rattle.steps.proofs.All.{every, all-same}
 use Rattle.steps.proofs.AddProduct.{step-test-same}
 use Rattle.tables.specs.RowMajor.{IsTable, table}
-use Rattle.tables.specs.Operators.{replace}
 use Rattle.tables.specs.Rows.{plusMultipleInRange}
 use Rattle.tables.proofs.Operators.{replace-same, replace-other, replace-own}
 use Rattle.bounds.specs.Bounds.{Bound, Covering, Least}
 use Rattle.bounds.proofs.Bounds.{covering-less}
 use Rattle.passes.specs.Told.{Told, FiniteRow, FiniteTable}
-use Rattle.passes.specs.RowPass.{turn, reach, staged, stagedInRange, passed, passInRange, IsIdentity, FiniteBelow}
+use Rattle.passes.specs.RowPass.{turn, reach, staged, stagedInRange, passed, passInRange}
 use Rattle.passes.proofs.Told.{ToldEach, told-from, told-turns, told-begins, told-exactly, told-ends}
 use Rattle.passes.proofs.RowPass.{turns, staged-same, passed-done}
 use Rattle.passes.proofs.ColumnPasses.{waits}

@@ -6,14 +6,12 @@
 // fall. Places of b outside r × r are left open: blocks of eight columns run over them.
 use tables::row;
 ghost use mathlib.Core.Path.{_≡_};
-ghost use Prim.Native.Nat.{ℕ, _≤_, _<_};
+ghost use Prim.Native.Nat.{_≤_, _<_};
 ghost use Rattle.definitions.specs.Numbers.{all};
 ghost use Rattle.tables.specs.RowMajor.{IsTable, table, Holds, Gives};
-ghost use Rattle.bounds.specs.Bounds.{Covering};
 ghost use Rattle.ranges.specs.Quick.{productsAt};
-ghost use Rattle.passes.specs.Told.{Told, FiniteRow};
-ghost use Rattle.passes.specs.RowPass.{turn, reach, staged, stagedInRange, identityRows, dividedRows, quotientsInRange};
-ghost use Rattle.columns.specs.Columns.{PassStarts, PassDone};
+ghost use Rattle.passes.specs.RowPass.{turn, reach, identityRows, dividedRows, quotientsInRange};
+ghost use Rattle.columns.specs.Columns.{CoversDone, TurnTold, PassStarts, PassDone};
 
 // The identity of r × r.
 pub fn identity(r: usize, b: &mut [f64; 1024])
@@ -44,8 +42,8 @@ fn products_told(r: usize, falling: bool, s: usize, t: &[f64; 1024], b: &[f64; 1
 
 // Turn s: lo bounds the rows that are added.
 fn row_told(r: usize, falling: bool, s: usize, lo: f64, t: &[f64; 1024], b: &[f64; 1024]) -> bool
-    requires { ⌜ (s < r) × (r ≤ 32) × IsTable (now t) × IsTable (now b) × ((q : ℕ) → q < s → Covering lo (table (now b) (turn r falling q)) 0 (reach r falling q)) ⌝ }
-    ensures { λ ok. let κ = turn r falling in let g = table (now (t .entry)) in let f = table (now (b .entry)) in ⌜ Told ok (stagedInRange κ (reach r falling) g f (κ s) s) (FiniteRow r (staged κ g f (κ s) s)) ⌝ }
+    requires { ⌜ (s < r) × (r ≤ 32) × IsTable (now t) × IsTable (now b) × CoversDone r falling s lo (table (now b)) ⌝ }
+    ensures { λ ok. ⌜ TurnTold r falling s (table (now (t .entry))) (table (now (b .entry))) ok ⌝ }
 {
     let from = turns::first_done(r, falling, s);
     if ranges::row_quick(turns::turn(r, falling, s), from, from + s, lo, t) {
@@ -63,7 +61,13 @@ pub fn pass(r: usize, falling: bool, t: &[f64; 1024], b: &mut [f64; 1024]) -> bo
     let mut ok = true;
     let mut lo = 1.0;
     for s in 1..r {
-        lo = bounds::least(lo, turns::turn(r, falling, s - 1), 0, turns::reach(r, falling, s - 1), b);
+        lo = bounds::least(
+            lo,
+            turns::turn(r, falling, s - 1),
+            0,
+            turns::reach(r, falling, s - 1),
+            b,
+        );
         let told = row_told(r, falling, s, lo, t, b);
         ok = ok & told;
         turns::add_done(r, falling, s, t, b);

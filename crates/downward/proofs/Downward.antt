@@ -14,13 +14,13 @@ use Rattle.tables.specs.Operators.{between}
 use Rattle.tables.proofs.Operators.{between-in, between-same}
 use Rattle.passes.specs.Stages.{stagesDone, stagesInRange, overPivot, upwardRows, upwardRowInRange}
 use Rattle.passes.proofs.SharedSteps.{shared-test, multipliers}
-use Rattle.downward.specs.Downward.{diagonal, SharedTable}
+use Rattle.downward.specs.Downward.{onDiagonal, SharedTable}
 
 -- The upward multipliers of row i look at that row and those below it, which are as they were at the start.
 module _ (r i : ℕ) (f g : ℕ → ℕ → Float) (same : (a : ℕ) → i ≤ a → f a ≡ g a) where
-  pub pivots-due : {p : List Float} (v : ℕ → Float) → VectorHolds p (between 0 r (diagonal g) v) → (k : ℕ) → i < k → k < r → vector p k ≡ diagonal f k
-  unfolding diagonal
-  pivots-due v h k l m = rw (h .is, between-in 0 r (diagonal g) v k zero-le m, same k (omega arith))
+  pub pivots-due : {p : List Float} (v : ℕ → Float) → VectorHolds p (between 0 r (onDiagonal g) v) → (k : ℕ) → i < k → k < r → vector p k ≡ onDiagonal f k
+  unfolding onDiagonal
+  pivots-due v h k l m = rw (h .is, between-in 0 r (onDiagonal g) v k zero-le m, same k (omega arith))
 
   pub upward-same : between (suc i) r (overPivot f i) (f i) ≡ between (suc i) r (overPivot g i) (g i)
   unfolding overPivot
@@ -34,13 +34,13 @@ module _ (r i : ℕ) (f g : ℕ → ℕ → Float) (same : (a : ℕ) → i ≤ a
       all-same (λ k. divInRange (f i k) (f k k)) (λ k. divInRange (g i k) (g k k)) (suc i) (r - suc i) (λ k l h. ap₂ (λ (x y : ℕ → Float). divInRange (x k) (y k)) (same i (le-refl i)) (same k (omega arith)))
 
 -- One multiplier.
-module _ (f : ℕ → ℕ → Float) (i k : ℕ) {x p : Float} (a : x ≡ f i k) (b : p ≡ diagonal f k) where
+module _ (f : ℕ → ℕ → Float) (i k : ℕ) {x p : Float} (a : x ≡ f i k) (b : p ≡ onDiagonal f k) where
   pub over-pivot : x ⊘ p ≡ overPivot f i k
-  unfolding overPivot diagonal
+  unfolding overPivot onDiagonal
   over-pivot = rw (a, b)
 
   pub over-pivot-test : {ok : Bool} → ok ≡ divInRange x p → ok ≡ divInRange (f i k) (f k k)
-  unfolding diagonal
+  unfolding onDiagonal
   over-pivot-test e = e ∙ rw (a, b)
 
 pub shared-table : (r : ℕ) (f : ℕ → ℕ → Float) {ys zs : List Float} {down up : Bool}

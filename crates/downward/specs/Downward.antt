@@ -9,8 +9,8 @@ use Rattle.tables.specs.RowMajor.{IsTable, table}
 use Rattle.passes.specs.Multipliers.{systemIn, Multipliers}
 
 -- The pivots, where every stage is done.
-unfoldable pub diagonal : (ℕ → ℕ → Float) → ℕ → Float
-diagonal f k = f k k
+unfoldable pub onDiagonal : (ℕ → ℕ → Float) → ℕ → Float
+onDiagonal f k = f k k
 
 -- The system in f: whether its steps are in range, and the pivots and multipliers that the table has.
 pub record SharedTable (r : ℕ) (f : ℕ → ℕ → Float) (ok : Bool) (xs : List Float) : Type 0 where

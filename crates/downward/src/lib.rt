@@ -9,7 +9,7 @@ ghost use Rattle.tables.specs.RowMajor.{IsTable, table, Gives};
 ghost use Rattle.tables.specs.Vectors.{vector, IsVector, VectorHolds};
 ghost use Rattle.tables.specs.Operators.{between, span};
 ghost use Rattle.passes.specs.Stages.{stagesDone, stagesInRange, overPivot, upwardRows, upwardRowInRange};
-ghost use Rattle.downward.specs.Downward.{diagonal, SharedTable};
+ghost use Rattle.downward.specs.Downward.{onDiagonal, SharedTable};
 
 // Every stage, and whether their steps are in range.
 fn stages(r: usize, t: &mut [f64; 1024]) -> bool
@@ -27,7 +27,7 @@ fn stages(r: usize, t: &mut [f64; 1024]) -> bool
 // The pivots side by side, since a row's divisors stand on the diagonal, one in each row.
 fn pivots(r: usize, t: &[f64; 1024], p: &mut [f64; 32])
     requires { ⌜ (r ≤ 32) × IsTable (now t) × IsVector (now p) ⌝ }
-    ensures { λ _. ⌜ VectorHolds (now (p .exit)) (between 0 r (diagonal (table (now (t .entry)))) (vector (now (p .entry)))) ⌝ }
+    ensures { λ _. ⌜ VectorHolds (now (p .exit)) (between 0 r (onDiagonal (table (now (t .entry)))) (vector (now (p .entry)))) ⌝ }
 {
     for k in 0..r {
         let x = row::get(k, k, t);
@@ -38,7 +38,7 @@ fn pivots(r: usize, t: &[f64; 1024], p: &mut [f64; 32])
 // The upward multipliers of row i, its sizes after the diagonal over the pivots p of their columns, and
 // whether they are in range.
 fn upward_row(r: usize, i: usize, p: &[f64; 32], t: &mut [f64; 1024]) -> bool
-    requires { ⌜ (i < r) × (r ≤ 32) × IsVector (now p) × IsTable (now t) × ((k : ℕ) → i < k → k < r → vector (now p) k ≡ diagonal (table (now t)) k) ⌝ }
+    requires { ⌜ (i < r) × (r ≤ 32) × IsVector (now p) × IsTable (now t) × ((k : ℕ) → i < k → k < r → vector (now p) k ≡ onDiagonal (table (now t)) k) ⌝ }
     ensures { λ ok. let f = table (now (t .entry)) in ⌜ Gives ok (upwardRowInRange r f i) (now (t .exit)) (span i (suc i) r (overPivot f i) f) ⌝ }
 {
     let mut ok = true;

@@ -1,5 +1,5 @@
 -- From the passes over b to the table of quotients.
-use mathlib.Core.Path.{_≡_, refl, sym, ap, ap₂, _∙_}
+use mathlib.Core.Path.{_≡_, refl, ap, ap₂, _∙_}
 use Prim.Native.Nat.{ℕ, suc, _-_, _<_}
 use native.Mathlib.Omega.{arith}
 use mathlib.Core.Bool.{Bool, true, false, _&&_, _||_}
@@ -9,7 +9,7 @@ use lib.Ieee.{Float, lt}
 use lib.Ieee.Fits.{and-i, and-l, and-r}
 use Rattle.exact.proofs.Bools.{same-truth, contrary}
 use Rattle.definitions.specs.Numbers.{_⊘_, smallest, finite, isZero, divInRange, addProductInRange, all}
-use Rattle.definitions.specs.LeavingRates.{System, downward, pivotInRange, p, u, m↓, b↓, solved, rowInRange, stageInRange, sharedBefore, shared, column, inRange}
+use Rattle.definitions.specs.LeavingRates.{System, downward, pivotInRange, p, u, m↓, b↓, solved, rowInRange, stageInRange, sharedBefore, shared, inRange}
 use Rattle.rounding.proofs.Finite.{quotient-finite}
 use Rattle.steps.proofs.All.{each}
 use Rattle.steps.proofs.LeavingRatesSteps.{multiplier-is}
@@ -17,7 +17,7 @@ use Rattle.tables.specs.RowMajor.{table, Holds, Gives, IsTable}
 use Rattle.tables.specs.Rows.{overInRange}
 use Rattle.passes.specs.Told.{Told, FiniteTable}
 use Rattle.passes.specs.Multipliers.{systemIn}
-use Rattle.passes.specs.RowPass.{turn, reach, passed, passInRange, IsIdentity, FiniteBelow, identityRows, dividedRows, quotientsInRange}
+use Rattle.passes.specs.RowPass.{turn, passed, IsIdentity, FiniteBelow, identityRows, dividedRows, quotientsInRange}
 use Rattle.passes.proofs.RowPass.{turns, start-finite}
 use Rattle.passes.proofs.ColumnPasses.{identity-inside, down-is, down-test, up-is, up-test, last-is, last-test, columns-test}
 use Rattle.downward.specs.Downward.{SharedTable}

@@ -8,8 +8,8 @@ use Rattle.definitions.specs.File.{Head, headReading, headStages, fileQuestions
 use Rattle.answers.specs.declared.Loaded.{Loaded}
 use Rattle.answers.specs.declared.Loaded.the-variants.{Sheet, Refused}
 use Rattle.answers.specs.Answers.{headGiven}
-use Rattle.file.specs.SheetFile.{SheetFile}
-use Rattle.file.proofs.FileWords.{room-held}
+use Rattle.payload.specs.SheetFile.{SheetFile}
+use Rattle.payload.proofs.FileWords.{room-held}
 
 given-passes : (asked : Asked) (head due : Head) → given head ≡ answer asked due → asked ≡ pass
 given-passes pass head due e = refl

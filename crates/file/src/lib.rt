@@ -2,49 +2,13 @@
 // before the first place is written.
 ghost use mathlib.Core.Path.{_≡_};
 ghost use mathlib.Core.Bool.{cond};
-ghost use Prim.Native.Nat.{suc, _*_, _≤_, _<_};
+ghost use Prim.Native.Nat.{suc};
 ghost use lib.Dec.{ltb};
-ghost use lib.ListN.{length, getD};
-ghost use Rattle.definitions.specs.File.{longestFile, fileWords, fileNumbers, fileAnswer, fileWordArea, fileNumberArea};
-ghost use Rattle.definitions.specs.Questions.{pass};
-ghost use Rattle.definitions.specs.Services.{filled};
+ghost use lib.ListN.{length};
+ghost use Rattle.definitions.specs.File.{longestFile, fileAnswer, fileWordArea, fileNumberArea};
 ghost use Rattle.answers.specs.Answers.{headGiven};
-ghost use Rattle.file.specs.SheetFile.{SheetFile};
 use answers::Loaded;
 use file_questions::judge;
-
-// Word k of a file that is accepted, row by row. Behind the ten bytes of the head each row has
-// eight bytes of its own before its words, so k words and k / n + 1 times eight bytes come first.
-fn word_of(bytes: &[u8], n: usize, k: usize) -> u64
-    requires { ⌜ SheetFile (now bytes) n × (k < n * n) ⌝ }
-    ensures { λ r. ⌜ r ≡ getD (fileWords (now (bytes .entry))) k 0 ⌝ }
-{
-    records::number_at(bytes, 18 + 8 * (k + k / n), 8)
-}
-
-fn fill_words(bytes: &[u8], n: usize, area: &mut [u64])
-    requires { ⌜ SheetFile (now bytes) n × (n * n ≤ length (now area)) ⌝ }
-    ensures { λ _. ⌜ now (area .exit) ≡ filled pass (fileWords (now (bytes .entry))) (now (area .entry)) ⌝ }
-{
-    let words = n * n;
-    let mut k = 0;
-    while k < words {
-        area[k] = word_of(bytes, n, k);
-        k += 1;
-    }
-}
-
-fn fill_numbers(bytes: &[u8], n: usize, area: &mut [f64])
-    requires { ⌜ SheetFile (now bytes) n × (n * n ≤ length (now area)) ⌝ }
-    ensures { λ _. ⌜ now (area .exit) ≡ filled pass (fileNumbers (now (bytes .entry))) (now (area .entry)) ⌝ }
-{
-    let numbers = n * n;
-    let mut k = 0;
-    while k < numbers {
-        area[k] = rounding::from_word(word_of(bytes, n, k));
-        k += 1;
-    }
-}
 
 // Reads a sheet file into an area of 64-bit words, which keep every bit.
 pub fn read_words(bytes: &[u8], area: &mut [u64]) -> Loaded
@@ -53,7 +17,7 @@ pub fn read_words(bytes: &[u8], area: &mut [u64]) -> Loaded
 {
     let answer = judge(bytes, area.len());
     if let Loaded::Sheet { reading: _, n } = answer {
-        fill_words(bytes, n, area);
+        payload::fill_words(bytes, n, area);
     }
     answer
 }
@@ -65,7 +29,7 @@ pub fn read_numbers(bytes: &[u8], area: &mut [f64]) -> Loaded
 {
     let answer = judge(bytes, area.len());
     if let Loaded::Sheet { reading: _, n } = answer {
-        fill_numbers(bytes, n, area);
+        payload::fill_numbers(bytes, n, area);
     }
     answer
 }

@@ -11,23 +11,11 @@ use answers::Loaded;
 use records::field_at;
 use records::is_whole;
 
-fn is_reading(reading: usize) -> bool
-    ensures { λ r. ⌜ r ≡ (eqb reading 1 || eqb reading 2) ⌝ }
-{
-    reading == 1 || reading == 2
-}
-
 // Whether a head may hold this reading and this number of stages.
 fn may_hold(reading: usize, n: usize) -> bool
     ensures { λ r. ⌜ r ≡ ((eqb reading 1 || eqb reading 2) && leb 1 n && leb n 32) ⌝ }
 {
-    if !is_reading(reading) {
-        return false;
-    }
-    if n < 1 {
-        return false;
-    }
-    n <= 32
+    ((reading == 1) | (reading == 2)) & (1 <= n) & (n <= 32)
 }
 
 // Question 12, of a head that the file holds whole.

@@ -1,6 +1,6 @@
 -- What each call promises, from the promise of the service behind it and its answer as plain numbers. An out place holds `cond
 -- accepted value before` afterwards: it is written where the call is accepted.
-use mathlib.Core.Path.{_≡_, refl, sym, _∙_}
+use mathlib.Core.Path.{_≡_, refl, _∙_}
 use mathlib.Core.Bool.{Bool, cond}
 use mathlib.Core.List.{List}
 use Prim.Native.Nat.{ℕ, _≤_, _<_}
@@ -9,7 +9,7 @@ use lib.ListN.{length}
 use lib.Ieee.{Float}
 use borrow.Author.Tests.{le-leb, lt-leb}
 use Rattle.definitions.specs.File.{Head, fileAnswer}
-use Rattle.definitions.specs.Services.{Answer, tableAnswer, entryAnswer}
+use Rattle.definitions.specs.Services.{Answer}
 use Rattle.definitions.specs.Dwell.{fileText}
 use Rattle.answers.specs.declared.Table.{Table}
 use Rattle.answers.specs.declared.Entry.{Entry}

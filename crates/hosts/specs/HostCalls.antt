@@ -12,7 +12,7 @@ use Rattle.definitions.specs.Matrix.{matrix, everyStage}
 use Rattle.definitions.specs.Questions.{pass, tableQuestions, entryQuestions}
 use Rattle.definitions.specs.Accuracy.{Accurate}
 use Rattle.definitions.specs.Services.{tableAnswer, tableArea, entryAnswer}
-use Rattle.definitions.specs.File.{Head, fileAnswer}
+use Rattle.definitions.specs.File.{fileAnswer}
 use Rattle.definitions.specs.Dwell.{fileText}
 use Rattle.digits.specs.Pasted.{AtStart}
 use Rattle.out_places.specs.OutPlaces.{Refusal, handed}

@@ -5,14 +5,14 @@ use native.Mathlib.Nat.{le-antisymm, zero-add}
 use native.Mathlib.Numerals.{add-one}
 use mathlib.Core.List.{List}
 use lib.Ieee.{Float}
-use mathlib.Core.Bool.{and-true, Bool, true, false, not, _&&_, _||_, cond}
+use mathlib.Core.Bool.{and-true, Bool, true, false, _&&_}
 use Rattle.definitions.specs.Numbers.{_⊕_, _⊗_, _⊘_, 0·0, 1·0, finite, mulInRange, divInRange, all}
 use Rattle.definitions.specs.Margins.{sumWith}
 use Rattle.tables.specs.RowMajor.{IsTable, table, Holds}
-use Rattle.tables.specs.Operators.{replace, between, put, span}
+use Rattle.tables.specs.Operators.{between, put, span}
 use Rattle.tables.proofs.Operators.{put-replaced, replace-own}
 use Rattle.tables.specs.Vectors.{vector}
-use Rattle.joins.specs.Columns.{knows, factorsOf, Factors, columnRow, placeInRange, PlaceFilled, ColumnFilled, unitRow, joinTest, joinedTable, Joined, KnownSum}
+use Rattle.joins.specs.StageJoin.{knows, factorsOf, Factors, columnRow, placeInRange, PlaceFilled, ColumnFilled, unitRow, joinTest, joinedTable, JoinDone, KnownSum}
 use Rattle.joins.specs.Joins.{dueJoined, dueTest, StageJoins, stagesJoined, stagesTest, StagesJoin}
 
 -- ---- the sum over the known stages
@@ -54,7 +54,7 @@ module _ (n c : ℕ) (known : ℕ → Bool) (t : ℕ → Float) (f : ℕ → ℕ
       → q ≡ 1·0 ⊘ p
       → Holds zs (put c c q (table ys))
       → first ≡ divInRange 1·0 p
-      → Joined n known c t a (first && divisions && column) f zs
+      → JoinDone n known c t a (first && divisions && column) f zs
   unfolding joinedTable joinTest unitRow span
   joined-whole {p} {q} {v = v} {w} {xs} e z d x y o u g =
       let s : vector w ≡ factorsOf n known t a (λ _. 0·0) = d .holds .is ∙ rw (e, z) in
@@ -70,7 +70,7 @@ module _ (n : ℕ) (t : ℕ → ℕ → Float) (a : ℕ → Float) (kept : ℕ �
   due-passes q c l e k = let h = rw e at k in record { range = rw h; holds = record { long = l; is = rw h } }
 
   pub due-joins : (q c : ℕ) (f : ℕ → ℕ → Float) {ok : Bool} {xs : List Float} → c ≡ n - suc q → kept c ≡ false
-      → Joined n (knows c kept) c (λ l. t l c) (a c) ok f xs
+      → JoinDone n (knows c kept) c (λ l. t l c) (a c) ok f xs
       → StageJoins n t a kept q f ok xs
   unfolding dueTest dueJoined
   due-joins q c f e k g = let h = rw e at k in let w = rw e at g in record { range = w .range ∙ rw h; holds = record { long = w .holds .long; is = w .holds .is ∙ rw h } }

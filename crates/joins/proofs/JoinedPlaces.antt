@@ -8,7 +8,7 @@ use Rattle.definitions.specs.Numbers.{_⊗_, _⊘_, 0·0, 1·0}
 use Rattle.definitions.specs.Margins.{sumWith}
 use Rattle.tables.specs.Operators.{between}
 use Rattle.tables.proofs.Operators.{replace-same, replace-other, between-in}
-use Rattle.joins.specs.Columns.{factorsOf, columnRow, columnFilled, unitRow, joinedTable}
+use Rattle.joins.specs.StageJoin.{factorsOf, columnRow, columnFilled, unitRow, joinedTable}
 
 module _ (n : ℕ) (known : ℕ → Bool) (c : ℕ) (t : ℕ → Float) (p : Float) (f : ℕ → ℕ → Float) where
   w : ℕ → Float

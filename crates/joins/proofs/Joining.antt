@@ -1,6 +1,6 @@
 -- A stage that joins a table that is right at the known stages leaves it right at those and at itself; and its tests are document 01's.
 use mathlib.Core.Path.{_≡_, refl, sym, ap, ap₂, _∙_}
-use Prim.Native.Nat.{ℕ, zero, suc, _+_, _-_, _≤_, _<_}
+use Prim.Native.Nat.{ℕ, zero, suc, _-_, _≤_, _<_}
 use native.Mathlib.Omega.{arith}
 use mathlib.Core.List.{List}
 use lib.Dec.{T, leb}
@@ -19,7 +19,7 @@ use Rattle.steps.proofs.MarginsSteps.{known-is, x-kept, join-corner, join-row, 
 use Rattle.tables.specs.Vectors.{vector}
 use Rattle.compact.specs.Listing.{marked}
 use Rattle.ratios.specs.Ratios.{ratio, diagonalOf, isKept, Diagonals, KeptMask}
-use Rattle.joins.specs.Columns.{knows, factorsOf, factorsInRange, placeInRange, columnInRange, joinedTable, joinTest}
+use Rattle.joins.specs.StageJoin.{knows, factorsOf, factorsInRange, placeInRange, columnInRange, joinedTable, joinTest}
 use Rattle.joins.specs.Joins.{dueJoined, dueTest, stagesJoined, stagesTest, KnownTable}
 use Rattle.joins.proofs.Conditions.{asked-once}
 use Rattle.joins.proofs.JoinedPlaces.{factor-at, at-corner, at-row, at-column, at-other}

@@ -8,7 +8,7 @@ use Rattle.definitions.specs.Numbers.{all}
 use Rattle.definitions.specs.Margins as Margins
 use Rattle.tables.specs.RowMajor.{Holds}
 use Rattle.ratios.specs.Ratios.{ratio}
-use Rattle.joins.specs.Columns.{knows, joinedTable, joinTest}
+use Rattle.joins.specs.StageJoin.{knows, joinedTable, joinTest}
 
 module _ (n : ℕ) (t : ℕ → ℕ → Float) (a : ℕ → Float) (kept : ℕ → Bool) where
   -- The stage that is due once q stages are done.

@@ -1,2 +1,2 @@
-pub mod Columns
+pub mod StageJoin
 pub mod Joins

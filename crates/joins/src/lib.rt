@@ -5,10 +5,10 @@ ghost use lib.ListN.{length};
 ghost use Rattle.tables.specs.RowMajor.{IsTable, table};
 ghost use Rattle.tables.specs.Vectors.{IsVector, vector};
 ghost use Rattle.compact.specs.Listing.{marked};
-ghost use Rattle.joins.specs.Columns.{knows, Factors, KnownSum, PlaceFilled, ColumnFilled, Joined};
+ghost use Rattle.joins.specs.StageJoin.{knows, Factors, KnownSum, PlaceFilled, ColumnFilled, JoinDone};
 ghost use Rattle.joins.specs.Joins.{StageJoins, StagesJoin};
-use tables::row;
 use rows::Sum;
+use tables::row;
 use tables::vector;
 
 // The stages that are known as stage c joins: the kept ones and those above c.
@@ -115,7 +115,7 @@ fn join(
     x: &mut [f64; 1024],
 ) -> bool
     requires { ⌜ (n ≤ 32) × (c < 32) × IsTable (now t) × IsVector (now a) × (length (now kept) ≡ 32) × IsTable (now x) ⌝ }
-    ensures { λ ok. let t = table (now (t .entry)) in ⌜ Joined n (knows c (marked (now (kept .entry)))) c (λ l. t l c) (vector (now (a .entry)) c) ok (table (now (x .entry))) (now (x .exit)) ⌝ }
+    ensures { λ ok. let t = table (now (t .entry)) in ⌜ JoinDone n (knows c (marked (now (kept .entry)))) c (λ l. t l c) (vector (now (a .entry)) c) ok (table (now (x .entry))) (now (x .exit)) ⌝ }
 {
     let p = vector::get(c, a);
     let mut w = [0.0; 32];

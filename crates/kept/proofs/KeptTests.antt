@@ -27,7 +27,7 @@ use Rattle.compact.specs.Compact.{Packed}
 use Rattle.compact.proofs.Listings.{listing-at, listing-stage, listing-same, all-listed}
 use Rattle.ratios.specs.Ratios.{ratio, diagonalOf, isKept}
 use Rattle.shares.specs.Shares.{Shares}
-use Rattle.kept.specs.Scaled.{inOrder, times, sizesInRange, rate, rateInRange, scaledRow, rowInRange, RowsScaled, KeptList, KeptSystem}
+use Rattle.kept.specs.Scaled.{inOrder, times, sizesInRange, rate, rateInRange, scaledRow, scaledRowInRange, RowsScaled, KeptList, KeptSystem}
 
 zero-finite : T (finite 0·0)
 unfolding finite
@@ -121,11 +121,11 @@ module _ {n : ℕ} {t : ℕ → ℕ → Float} {d : ℕ → Float} {a k : List F
           total : Float
           total = sum 0·0 terms (suc i) (n - suc i)
 
-      rows-test : all (λ p. rowInRange n r stages t (vector k) (vector w) p (table s₀ p)) 0 r ≡ all (λ i. not (isKept n t d i) || (S i && (M i && A i))) 0 n
-      unfolding rowInRange
+      rows-test : all (λ p. scaledRowInRange n r stages t (vector k) (vector w) p (table s₀ p)) 0 r ≡ all (λ i. not (isKept n t d i) || (S i && (M i && A i))) 0 n
+      unfolding scaledRowInRange
       rows-test =
           all-below
-          (λ p. rowInRange n r stages t (vector k) (vector w) p (table s₀ p))
+          (λ p. scaledRowInRange n r stages t (vector k) (vector w) p (table s₀ p))
           (λ p. S (stageAt stages p) && (M (stageAt stages p) && A (stageAt stages p)))
           (λ p l. ap₂ _&&_ (sizes-test p l) (rate-test (stageAt stages p) (listing-stage kept-list p l .below)))
           ∙ all-listed kept-list (λ i. S i && (M i && A i))

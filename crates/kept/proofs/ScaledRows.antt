@@ -12,7 +12,7 @@ use Rattle.tables.specs.Operators.{between, put, span}
 use Rattle.tables.specs.Rows.{Dot}
 use Rattle.tables.proofs.Operators.{put-replaced}
 use Rattle.compact.specs.Listing.{stageAt}
-use Rattle.kept.specs.Scaled.{inOrder, times, SizesScaled, rate, rateInRange, scaledRow, rowInRange, RowScaled}
+use Rattle.kept.specs.Scaled.{inOrder, times, SizesScaled, rate, rateInRange, scaledRow, scaledRowInRange, RowScaled}
 
 -- ---- row p: its sizes, then its leaving rate
 pub row-scaled : (n r : ℕ) (stages : List ℕ) (t : ℕ → ℕ → Float) (k w : ℕ → Float) (f : ℕ → ℕ → Float) (p i : ℕ) {x : Float} {sizes products ends : Bool} {xs ys : List Float}
@@ -22,7 +22,7 @@ pub row-scaled : (n r : ℕ) (stages : List ℕ) (t : ℕ → ℕ → Float) (k 
     → Holds ys (put p p x (table xs))
     → ends ≡ finite x
     → RowScaled n r stages t k w p (sizes && products && ends) f ys
-unfolding span scaledRow rate rowInRange rateInRange
+unfolding span scaledRow rate scaledRowInRange rateInRange
 row-scaled n r stages t k w f p i {x} {sizes} {products} {ends} e g dot v z =
     let own = between 0 r (times (inOrder stages k) (f p)) (f p) in
     let step = rw (add-one i, e) at dot in

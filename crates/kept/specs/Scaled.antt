@@ -40,16 +40,16 @@ module _ (n r : ℕ) (stages : List ℕ) (t : ℕ → ℕ → Float) (k w : ℕ 
   unfoldable pub scaledRow : ℕ → (ℕ → Float) → ℕ → Float
   scaledRow p row = replace p (rate (stageAt stages p)) (between 0 r (times (inOrder stages k) row) row)
 
-  unfoldable pub rowInRange : ℕ → (ℕ → Float) → Bool
-  rowInRange p row = sizesInRange r (inOrder stages k) p row && rateInRange (stageAt stages p)
+  unfoldable pub scaledRowInRange : ℕ → (ℕ → Float) → Bool
+  scaledRowInRange p row = sizesInRange r (inOrder stages k) p row && rateInRange (stageAt stages p)
 
   pub record RowScaled (p : ℕ) (ok : Bool) (f : ℕ → ℕ → Float) (xs : List Float) : Type 0 where
-    pub range : ok ≡ rowInRange p (f p)
+    pub range : ok ≡ scaledRowInRange p (f p)
     pub holds : Holds xs (replace p (scaledRow p (f p)) f)
 
   -- all r rows.
   pub record RowsScaled (ok : Bool) (f : ℕ → ℕ → Float) (xs : List Float) : Type 0 where
-    pub range : ok ≡ all (λ p. rowInRange p (f p)) 0 r
+    pub range : ok ≡ all (λ p. scaledRowInRange p (f p)) 0 r
     pub holds : Holds xs (between 0 r (λ p. scaledRow p (f p)) f)
 
 -- What is known of the stages by then: the ratios, and the list of the kept ones.

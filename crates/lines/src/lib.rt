@@ -13,7 +13,7 @@ fn put_entry(row: usize, column: usize, x: f64, at: usize, out: &mut [u8]) -> us
     let word = rounding::to_word(x);
     let after_row = digits::put_field(row, b' ', at, out);
     let after_column = digits::put_field(column, b' ', after_row, out);
-    let after_bits = digits::put_hexadecimal(word, after_column, out);
+    let after_bits = hexadecimal::put_hexadecimal(word, after_column, out);
     digits::put_byte(b'\n', after_bits, out)
 }
 

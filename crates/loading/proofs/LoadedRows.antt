@@ -1,5 +1,5 @@
 -- Rows and diagonals as they are loaded: the literal 0.0 is plus zero.
-use mathlib.Core.Path.{_≡_, refl, sym, ap, _∙_, fun-ext}
+use mathlib.Core.Path.{_≡_, sym, ap, _∙_, fun-ext}
 use Prim.Native.Nat.{ℕ, _<_, zero-le}
 use mathlib.Core.List.{List}
 use lib.Ieee.{Float, binary64, ofBits}

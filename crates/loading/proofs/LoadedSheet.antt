@@ -1,13 +1,12 @@
 -- What the steps see of a loaded sheet: from zeros the sizes are the sheet's as a function, and the margins too; with the leaving rates
 -- on the diagonal it is the sheet's system.
-use mathlib.Core.Path.{_≡_, refl, sym, ap, _∙_, fun-ext}
+use mathlib.Core.Path.{_≡_, sym, ap, _∙_, fun-ext}
 use Prim.Native.Nat.{ℕ, _<_, zero-le}
 use mathlib.Core.List.{List}
 use lib.Ieee.{Float}
 use Rattle.exact.proofs.Cases.{by-order}
 use Rattle.definitions.specs.Numbers.{0·0}
 use Rattle.definitions.specs.Sheet.{size, diagonal, system}
-use Rattle.definitions.specs.LeavingRates.{System}
 use Rattle.steps.proofs.Sizes.{size-below, size-right, diagonal-below}
 use Rattle.steps.proofs.Same.{Same}
 use Rattle.tables.specs.Operators.{replace, between}

@@ -1,7 +1,6 @@
 // A sheet's sizes in a working table, and its diagonal's parameters: leaving rates on the table's diagonal,
 // or margins in a vector (document 01, "The sheet and its two readings"). A zero of either sign becomes
 // plus zero. Places outside the sheet keep their numbers.
-ghost use mathlib.Core.Path.{_≡_};
 ghost use Prim.Native.Nat.{_<_};
 ghost use Rattle.definitions.specs.Sheet.{size, diagonal};
 ghost use Rattle.tables.specs.RowMajor.{IsTable, table, Holds};

@@ -1,18 +1,16 @@
 -- From what the parts promise to the table: the kept system through the engine and the way back, and the stages that join.
-use mathlib.Core.Path.{_≡_, refl, sym, ap, ap₂, _∙_}
-use Prim.Native.Nat.{ℕ, suc, _-_, _≤_, _<_, zero-le}
+use mathlib.Core.Path.{_≡_, sym, ap, ap₂, _∙_}
+use Prim.Native.Nat.{ℕ, suc, _-_, _<_, zero-le}
 use native.Mathlib.Nat.{sub-zero}
-use native.Mathlib.Omega.{arith}
 use mathlib.Core.List.{List}
-use lib.Dec.{T, leb}
+use lib.Dec.{leb}
 use lib.Ieee.{Float}
-use lib.Ieee.Fits.{and-l, and-r}
 use borrow.Author.Tests.{lt-leb}
 use Rattle.exact.proofs.Cases.{by-bool}
 use Rattle.exact.proofs.Bools.{and-assoc, holds}
 use mathlib.Core.Bool.{and-false, and-true, Bool, true, false, not, _&&_, _||_}
 use Rattle.definitions.specs.Numbers.{_⊗_, mulInRange, all}
-use Rattle.definitions.specs.LeavingRates.{System, downward, quotient, inRange}
+use Rattle.definitions.specs.LeavingRates.{downward, quotient, inRange}
 use Rattle.definitions.specs.Margins.{rank, keptSystem, y, known, xAfter, ratioInRange, backInRange, joinInRange, everyStep, marginsInRange}
 use Rattle.steps.proofs.All.{all-below}
 use Rattle.steps.proofs.Same.{Same, same-quotient, same-in-range}
@@ -29,9 +27,9 @@ use Rattle.compact.specs.Compact.{Unpacked}
 use Rattle.compact.proofs.Listings.{place-of, listing-stage, listing-same, all-listed}
 use Rattle.ratios.specs.Ratios.{ratio, isKept, RatiosBefore, RatiosTested}
 use Rattle.kept.specs.Scaled.{KeptSystem}
-use Rattle.joins.specs.Joins.{StagesJoin, KnownTable}
+use Rattle.joins.specs.Joins.{StagesJoin}
 use Rattle.joins.proofs.Joining.{joined-whole-table, joined-tests}
-use Rattle.margins.specs.WayBack.{multiple, WayBack}
+use Rattle.way_back.specs.WayBack.{multiple, WayBack}
 use Rattle.margins.specs.MarginsTable.{systemInRange, engineInRange, wayBackInRange, KeptTable, MarginsTable}
 
 -- ---- the kept stages

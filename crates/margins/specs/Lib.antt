@@ -1,2 +1,1 @@
-pub mod WayBack
 pub mod MarginsTable

@@ -62,7 +62,6 @@ module _ {n : ℕ} {t : ℕ → ℕ → Float} {d : ℕ → Float} {D : ℕ} {K 
     pub h-good : Good (h n t d k i)
     pub h-near : Near (hCount n i) (units (h n t d k i) * D) (exactH (s .exact) i)
     pub a-good : Good (a n t d k i)
-    pub a-above : 0 < units (a n t d k i)
     pub a-round : Near 1 (units (a n t d k i)) (units (d i) + units (h n t d k i))
     pub k-good : Good (k i)
     pub k-near : Near (hCount n i + 2) (units (k i) * D) (K i * one·units)
@@ -138,7 +137,6 @@ module _ {n : ℕ} {t : ℕ → ℕ → Float} {d : ℕ → Float} {D : ℕ} {K 
           h-good = gh;
           h-near = here-h-near;
           a-good = ga;
-          a-above = above;
           a-round = an;
           k-good = rw (s .k-is i b) (quotient-good gh ga division);
           k-near =

@@ -21,15 +21,7 @@ fn moves_from_to(n: usize, i: usize, j: usize, sheet: &[f64]) -> bool
     (i != j) & (0.0 - number_at(n, i, j, sheet) != 0.0)
 }
 
-// Whether the leaving rate of stage i is positive; the sum makes either zero plus zero.
-fn has_exit(n: usize, i: usize, sheet: &[f64]) -> bool
-    requires { ⌜ Square n (now sheet) × (i < n) ⌝ }
-    ensures { λ r. ⌜ r ≡ leaves n (now (sheet .entry)) i ⌝ }
-{
-    0.0 < number_at(n, i, i, sheet) + 0.0
-}
-
-// The stages with an exit.
+// The stages with an exit: their leaving rate is positive, and the sum makes either zero plus zero.
 pub fn exits(n: usize, sheet: &[f64]) -> Marks
     requires { ⌜ Square n (now sheet) ⌝ }
     ensures { λ r. ⌜ Marked (leaves n (now (sheet .entry))) n r ⌝ }
@@ -39,7 +31,7 @@ pub fn exits(n: usize, sheet: &[f64]) -> Marks
         count: 0,
     };
     for i in 0..n {
-        if has_exit(n, i, sheet) {
+        if 0.0 < number_at(n, i, i, sheet) + 0.0 {
             next.marked[i] = true;
             next.count += 1;
         }

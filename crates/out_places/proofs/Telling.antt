@@ -1,5 +1,5 @@
 -- What an answer tells where the call is accepted and where it is refused.
-use mathlib.Core.Path.{_≡_, refl, ap}
+use mathlib.Core.Path.{_≡_}
 use mathlib.Core.Bool.{true, false}
 use Prim.Native.Nat.{ℕ}
 use Rattle.definitions.specs.File.{Head}

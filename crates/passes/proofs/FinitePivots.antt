@@ -3,7 +3,6 @@ use mathlib.Core.Path.{_≡_}
 use Prim.Native.Nat.{ℕ, suc, _-_, _≤_, _<_}
 use native.Mathlib.Omega.{arith}
 use lib.Dec.{T}
-use lib.Ieee.{Float}
 use Rattle.definitions.specs.Numbers.{finite, addInRange, sum, sumInRange}
 use Rattle.definitions.specs.LeavingRates.{System, pivot, pivotInRange}
 use Rattle.rounding.proofs.RoundedSums.{total-in-range, range-last, start-finite, term-finite}

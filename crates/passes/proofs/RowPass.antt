@@ -11,11 +11,10 @@ use Rattle.definitions.specs.Numbers.{_⊕_, _⊗_, finite, addProductInRange, 
 use Rattle.rounding.proofs.Finite.{sum-finite}
 use Rattle.steps.proofs.All.{all-same}
 use Rattle.steps.proofs.AddProduct.{step-same, step-test-same}
-use Rattle.tables.specs.Operators.{replace}
 use Rattle.tables.specs.Rows.{plusMultiple, plusMultipleInRange}
 use Rattle.tables.proofs.Operators.{replace-same, replace-other}
-use Rattle.passes.specs.RowPass.{turn, reach, staged, stagedInRange, passed, passInRange}
-use Rattle.passes.specs.Told.{FiniteRow, FiniteTable}
+use Rattle.passes.specs.RowPass.{turn, staged, stagedInRange, passed, passInRange}
+use Rattle.passes.specs.Told.{FiniteTable}
 
 -- ---- one row
 module _ (κ : ℕ → ℕ) (g : ℕ → ℕ → Float) where

@@ -1,16 +1,15 @@
 -- The table after all stages and the upward multipliers: document 01's pivots, multipliers and tests.
-use mathlib.Core.Path.{_≡_, refl, sym, ap, ap₂, _∙_}
+use mathlib.Core.Path.{_≡_, refl, ap, ap₂, _∙_}
 use mathlib.Core.Logic.{_⊎_, inl, inr}
 use Prim.Native.Nat.{ℕ, zero, suc, _+_, _-_, _≤_, _<_}
 use native.Mathlib.Nat.{add-zero, add-suc}
 use native.Mathlib.Omega.{arith}
 use mathlib.Core.Bool.{Bool, _&&_}
-use lib.Dec.{T}
 use lib.Ieee.{Float}
 use Rattle.exact.proofs.Cases.{by-order, by-equal}
 use Rattle.exact.proofs.Bools.{same-truth}
 use Rattle.definitions.specs.Numbers.{_⊘_, divInRange, all}
-use Rattle.definitions.specs.LeavingRates.{System, pivot, multiplier, eliminate, begun, downward, p, u, m↓, m↑, rowInRange, stageInRange, sharedBefore, shared}
+use Rattle.definitions.specs.LeavingRates.{System, multiplier, eliminate, begun, downward, p, u, m↓, m↑, rowInRange, stageInRange, sharedBefore, shared}
 use Rattle.steps.proofs.All.{each, every, all-same}
 use Rattle.steps.proofs.LeavingRatesSteps.{begun-at}
 use Rattle.steps.proofs.Same.{Same, same-same, eliminate-same, p-same, m↓-same, u-same, stage-test-same}

@@ -1,5 +1,5 @@
 -- The places of a table after stage k, and that the stage is one step of document 01.
-use mathlib.Core.Path.{_≡_, refl, sym, ap, _∙_}
+use mathlib.Core.Path.{_≡_, sym, ap, _∙_}
 use Prim.Native.Nat.{ℕ, suc, _-_, _≤_, _<_}
 use native.Mathlib.Omega.{arith}
 use lib.Ieee.{Float}
@@ -9,7 +9,7 @@ use Rattle.steps.proofs.TableLaws.{stored-at, storedTable-at}
 use Rattle.steps.proofs.Same.{Same}
 use Rattle.tables.specs.Operators.{replace, between, put}
 use Rattle.tables.specs.Rows.{plusMultiple}
-use Rattle.tables.proofs.Operators.{replace-same, replace-other, between-in, between-low, between-past, between-out}
+use Rattle.tables.proofs.Operators.{replace-same, replace-other, between-in, between-low}
 use Rattle.passes.specs.Multipliers.{systemIn}
 use Rattle.passes.specs.Stages.{multiplierRow, multipliedRows, eliminatedRow, eliminatedRows, stageDone}
 

@@ -1,7 +1,7 @@
 -- The steps on b row by row (document 01, "Steps for leaving rates"): the rows take turns, and each gets the rows before it added, one after another, with its own multipliers.
 use mathlib.Core.Path.{_≡_}
 use Prim.Native.Nat.{ℕ, zero, suc, _-_, _<_}
-use mathlib.Core.Bool.{Bool, false, cond}
+use mathlib.Core.Bool.{Bool, cond}
 use lib.Dec.{T, eqb}
 use lib.Ieee.{Float}
 use Rattle.definitions.specs.Numbers.{0·0, 1·0, finite, all}

@@ -2,7 +2,6 @@
 ghost use Prim.Native.Nat.{_<_};
 ghost use mathlib.Core.Path.{_≡_};
 ghost use Rattle.definitions.specs.Sheet.{place};
-ghost use Rattle.definitions.specs.Questions.{largeEnough};
 ghost use Rattle.answers.specs.Outcome.{ComesTo};
 ghost use Rattle.shape.specs.Square.{Square};
 ghost use Rattle.places.specs.PlaceQuestions.{signAt, passes, askPlaces};
@@ -29,14 +28,7 @@ fn right_sign(reading: usize, i: usize, j: usize, x: f64) -> bool
     0.0 < x
 }
 
-// Question 8: 2.2250738585072014e-308 is 2^-1022.
-fn large_enough(x: f64) -> bool
-    ensures { λ r. ⌜ r ≡ largeEnough x ⌝ }
-{
-    (x == 0.0) | (2.2250738585072014e-308 <= x) | (x <= -2.2250738585072014e-308)
-}
-
-// Question 6, 7 or 8 of the number x at row i and column j.
+// Question 6, 7 or 8 of the number x at row i and column j: 2.2250738585072014e-308 is 2^-1022.
 fn place_passes(question: usize, reading: usize, i: usize, j: usize, x: f64) -> bool
     ensures { λ r. ⌜ r ≡ passes question reading i j x ⌝ }
 {
@@ -46,7 +38,7 @@ fn place_passes(question: usize, reading: usize, i: usize, j: usize, x: f64) -> 
     if question == 7 {
         return right_sign(reading, i, j, x);
     }
-    large_enough(x)
+    (x == 0.0) | (2.2250738585072014e-308 <= x) | (x <= -2.2250738585072014e-308)
 }
 
 // Question 6, 7 or 8 of every place, row by row: the search stops at the first bad place.

@@ -4,7 +4,6 @@ use Prim.Native.Nat.{ℕ, _*_, _-_, _<_}
 use native.Mathlib.Omega.{arith}
 use mathlib.Core.Bool.{Bool, true, false}
 use mathlib.Core.List.{List, _++_}
-use lib.Dec.{T}
 use lib.ListN.{length, drop}
 use lib.Ieee.{Float}
 use Rattle.definitions.specs.Fractions.{Fraction}

@@ -5,41 +5,34 @@ ghost use lib.Dec.{T};
 ghost use Rattle.definitions.specs.Questions.{pass};
 ghost use Rattle.shape.specs.Square.{Square};
 ghost use Rattle.places.specs.PlaceQuestions.{placeQuestions};
-ghost use Rattle.quick.specs.QuickPass.{PassesOn, PassesOff, DiagonalPasses, StretchPasses, SizesPass};
+ghost use Rattle.quick.specs.QuickPass.{DiagonalPasses, StretchPasses, SizesPass};
 use places::number_at;
 
-// Questions 6, 7 and 8 of a number x on the diagonal: zero (reading 1), or from 2^-1022 to the largest number.
-fn parameter_passes(reading: usize, x: f64) -> bool
-    ensures { λ r. ⌜ (T r → PassesOn reading x) ⌝ }
-{
-    ((x == 0.0) & (reading == 1)) | ((2.2250738585072014e-308 <= x) & (x <= 1.7976931348623157e308))
-}
-
+// Questions 6, 7 and 8 of the diagonal: each number is zero (reading 1), or from 2^-1022 to the largest number.
 fn diagonal_passes(reading: usize, n: usize, sheet: &[f64]) -> bool
     requires { ⌜ Square n (now sheet) ⌝ }
     ensures { λ r. ⌜ (T r → DiagonalPasses reading n (now (sheet .entry))) ⌝ }
 {
     let mut good = true;
     for i in 0..n {
-        good = good & parameter_passes(reading, number_at(n, i, i, sheet));
+        let x = number_at(n, i, i, sheet);
+        good = good
+            & (((x == 0.0) & (reading == 1))
+                | ((2.2250738585072014e-308 <= x) & (x <= 1.7976931348623157e308)));
     }
     good
 }
 
-// The same questions of a number x off the diagonal: zero, or from minus the largest number to -2^-1022.
-fn size_passes(x: f64) -> bool
-    ensures { λ r. ⌜ (T r → PassesOff x) ⌝ }
-{
-    (x == 0.0) | ((-1.7976931348623157e308 <= x) & (x <= -2.2250738585072014e-308))
-}
-
+// The same questions of numbers off the diagonal: each is zero, or from minus the largest number to -2^-1022.
 fn stretch_passes(part: &[f64]) -> bool
     ensures { λ r. ⌜ (T r → StretchPasses (now (part .entry))) ⌝ }
 {
     let mut good = true;
     let mut k = 0;
     while k < part.len() {
-        good = good & size_passes(part[k]);
+        let x = part[k];
+        good = good
+            & ((x == 0.0) | ((-1.7976931348623157e308 <= x) & (x <= -2.2250738585072014e-308)));
         k += 1;
     }
     good

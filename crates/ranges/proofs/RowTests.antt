@@ -5,11 +5,11 @@ use native.Mathlib.Nat.{le-refl}
 use native.Mathlib.Numerals.{add-one}
 use native.Mathlib.Omega.{arith}
 use mathlib.Core.Logic.{_⊎_, inl, inr}
-use mathlib.Core.Bool.{Bool, true, false, _&&_, _||_}
+use mathlib.Core.Bool.{Bool, true, _&&_, _||_}
 use lib.Dec.{T, eqb}
 use lib.Ieee.{Float, binary64, fits, lt}
 use borrow.Author.Tests.{eq-eqb, ne-eqb}
-use Rattle.definitions.specs.Numbers.{_⊕_, _⊗_, _⊘_, smallest, finite, isZero, mulInRange, divInRange, addProductInRange, all}
+use Rattle.definitions.specs.Numbers.{_⊗_, _⊘_, smallest, finite, isZero, mulInRange, divInRange, addProductInRange, all}
 use Rattle.rounding.proofs.Finite.{sum-finite}
 use Rattle.tables.specs.Rows.{timesInRange}
 use Rattle.passes.specs.Stages.{rowTest}

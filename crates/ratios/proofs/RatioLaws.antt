@@ -6,7 +6,7 @@ use native.Mathlib.Numerals.{add-one}
 use native.Mathlib.Omega.{arith}
 use mathlib.Core.Bool.{Bool, true, false, not, _&&_, cond}
 use mathlib.Core.List.{List}
-use lib.Dec.{T, eqb}
+use lib.Dec.{eqb}
 use lib.ListN.{length, set, length-set, List·getD-eq-default}
 use lib.Seq.{getD-set-same, getD-set-other}
 use lib.Ieee.{Float, ne, binary64, ofBits}
@@ -19,10 +19,9 @@ use Rattle.definitions.specs.Margins.{hOf, kBefore, h, a, ratioInRange}
 use Rattle.rounding.proofs.Finite.{sum-finite}
 use Rattle.rounding.proofs.RoundedSums.{total-in-range, start-finite}
 use Rattle.rounding.proofs.Words.{zero-word}
-use Rattle.steps.proofs.FloatSums.{sum-same}
 use Rattle.steps.proofs.All.{all-below}
 use Rattle.steps.proofs.TableLaws.{length-list}
-use Rattle.steps.proofs.MarginsSteps.{known-by, h-known-by, k-is, h-is, a-is, kept-is}
+use Rattle.steps.proofs.MarginsSteps.{known-by, h-known-by, k-is, a-is, kept-is}
 use Rattle.tables.specs.Operators.{replace}
 use Rattle.tables.specs.Rows.{Dot}
 use Rattle.tables.specs.Vectors.{IsVector, vector, VectorHolds}

@@ -24,7 +24,7 @@ use Rattle.answers.specs.declared.Loaded.{Loaded}
 use Rattle.answers.specs.declared.Loaded.the-variants as file
 use Rattle.answers.specs.Answers.{tableGiven, headGiven}
 use Rattle.file.proofs.Reading.{sheet-file, to-fill}
-use Rattle.file.proofs.FileWords.{file-numbers-length}
+use Rattle.payload.proofs.FileWords.{file-numbers-length}
 use Rattle.answers.specs.declared.Table.{Table}
 use Rattle.planner.specs.Promises.{TableDone}
 use Rattle.report.specs.Reported.{Reported}

@@ -1,8 +1,8 @@
 -- Compact order: the listed stages rise, a stage's rank is its place in the list, and both ways lead back.
 use Prim.Native.Nat.{ℕ, zero, suc, _+_, _-_, _<_, _≤_}
-use mathlib.Core.Bool.{Bool, true, false, cond}
-use mathlib.Core.List.{List, [], _∷_, _++_, append-nil}
-use mathlib.Core.Path.{_≡_, refl, ap, ap₂, _∙_}
+use mathlib.Core.Bool.{Bool, true, false}
+use mathlib.Core.List.{[], _∷_, _++_, append-nil}
+use mathlib.Core.Path.{_≡_, refl, ap, _∙_}
 use native.Mathlib.Nat.{add-zero, add-suc, le-refl, le-trans}
 use native.Mathlib.Numerals.{add-one}
 use native.Mathlib.Decide.{decLt}
@@ -11,16 +11,6 @@ use lib.ListN.{length, getD, length-append, List·getD-append}
 use lib.Seq.{getD-at}
 use Rattle.exact.proofs.Cases.{by-bool}
 use Rattle.definitions.specs.Margins.{stagesWith, rank}
-
--- A list looks at the stages below n alone.
-pub stagesWith-same : (test other : ℕ → Bool) (n : ℕ) → ((i : ℕ) → i < n → test i ≡ other i) → stagesWith test n ≡ stagesWith other n
-unfolding stagesWith
-stagesWith-same test other zero e = refl
-stagesWith-same test other (suc n) e = ap₂ (λ (xs : List ℕ) (b : Bool). xs ++ cond b (n ∷ []) []) (stagesWith-same test other n (λ i l. e i (omega arith))) (e n (omega arith))
-
-pub rank-same : (test other : ℕ → Bool) (n : ℕ) → ((i : ℕ) → i < n → test i ≡ other i) → rank test n ≡ rank other n
-unfolding rank
-rank-same test other n e = ap length (stagesWith-same test other n e)
 
 module _ (test : ℕ → Bool) where
   pub list-take : (n : ℕ) → test n ≡ true → stagesWith test (suc n) ≡ stagesWith test n ++ (n ∷ [])

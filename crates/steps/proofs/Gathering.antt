@@ -1,11 +1,11 @@
--- Loops that gather a test, a sum, or the tests of a sum's additions: their invariants, and what a turn does to each.
+-- Loops that gather a test or a sum: their invariants, and what a turn does to each.
 use mathlib.Core.Path.{_≡_, ap, _∙_}
 use Prim.Native.Nat.{ℕ, suc, _+_, _-_, _≤_}
 use native.Mathlib.Nat.{le-refl, le-antisymm, sub-zero, add-sub-of-le}
 use native.Mathlib.Omega.{arith}
 use mathlib.Core.Bool.{Bool, true, _&&_}
 use lib.Ieee.{Float}
-use Rattle.definitions.specs.Numbers.{_⊕_, addInRange, sum, sumInRange, all}
+use Rattle.definitions.specs.Numbers.{_⊕_, sum, all}
 
 -- A loop from lo that gathers p: the turns before j are done.
 pub record Gathered (p : ℕ → Bool) (lo j : ℕ) (ok : Bool) : Type 0 where
@@ -16,9 +16,6 @@ pub record Gathered (p : ℕ → Bool) (lo j : ℕ) (ok : Bool) : Type 0 where
 pub record Summed (start : Float) (f : ℕ → Float) (lo j : ℕ) (x : Float) : Type 0 where
   pub from : lo ≤ j
   pub is : x ≡ sum start f lo (j - lo)
-
-pub record SumGathered (start : Float) (f : ℕ → Float) (lo j : ℕ) (ok : Bool) : Type 0 where
-  pub is : ok ≡ sumInRange start f lo (j - lo)
 
 none-left : (lo : ℕ) → lo - lo ≡ 0
 none-left lo = omega arith
@@ -47,10 +44,6 @@ module _ {start : Float} {f : ℕ → Float} {lo : ℕ} where
   unfolding sum
   summed-begins e q = rw (e, q) (record { from = le-refl lo; is = rw (none-left lo) })
 
-  pub sum-gathered-begins : {j : ℕ} → j ≡ lo → SumGathered start f lo j true
-  unfolding sumInRange
-  sum-gathered-begins e = rw e (record { is = rw (none-left lo) })
-
   module _ {j : ℕ} {x : Float} (h : Summed start f lo j x) where
     pub summed-turns : {y : Float} → y ≡ f j → Summed start f lo (j + 1) (x ⊕ y)
     unfolding sum
@@ -59,21 +52,6 @@ module _ {start : Float} {f : ℕ → Float} {lo : ℕ} where
 
     pub summed-ends : {hi : ℕ} → j ≤ hi → hi ≤ j → x ≡ sum start f lo (hi - lo)
     summed-ends l m = rw (le-antisymm l m) at (h .is)
-
-    pub sum-gathered-turns : {ok now : Bool} {y : Float} → SumGathered start f lo j ok → now ≡ addInRange x y → y ≡ f j → SumGathered start f lo (j + 1) (ok && now)
-    unfolding sumInRange
-    sum-gathered-turns g n e = record { is = rw (one-more lo j (h .from)) (rw (n, g .is, h .is, e, add-sub-of-le (h .from))) }
-
-pub sum-gathered-ends : {start : Float} {f : ℕ → Float} {lo j hi : ℕ} {ok : Bool} → SumGathered start f lo j ok → j ≤ hi → hi ≤ j → ok ≡ sumInRange start f lo (hi - lo)
-sum-gathered-ends g l m = rw (le-antisymm l m) at (g .is)
-
--- From 0 on.
-module _ {start : Float} {f : ℕ → Float} {j hi : ℕ} where
-  pub summed-all : {x : Float} → Summed start f 0 j x → j ≤ hi → hi ≤ j → x ≡ sum start f 0 hi
-  summed-all h l m = rw (sub-zero hi) at (summed-ends h l m)
-
-  pub sum-gathered-all : {ok : Bool} → SumGathered start f 0 j ok → j ≤ hi → hi ≤ j → ok ≡ sumInRange start f 0 hi
-  sum-gathered-all g l m = rw (sub-zero hi) at (sum-gathered-ends g l m)
 
 -- What holds at the counter holds at the bound that it has reached.
 pub at-end : {A : Type 0} (g : ℕ → A) {x : A} {l n : ℕ} → x ≡ g l → l ≤ n → n ≤ l → x ≡ g n

@@ -8,7 +8,7 @@ use lib.ListN.{length}
 use lib.Ieee.{Float}
 use Rattle.tables.specs.RowMajor.{tableOf, HoldsIn}
 use Rattle.tables.specs.Operators.{replace, between, put, span}
-use Rattle.tables.proofs.Operators.{between-none, between-step, between-past, between-out, between-joins, span-none, span-step, span-joins, span-past, span-row}
+use Rattle.tables.proofs.Operators.{between-none, between-step, between-past, between-out, span-none, span-step, span-past, span-row}
 
 -- Along row i from lo: the places before j are done. They become g, and f was the table at the start.
 pub record AlongIn (limit width i lo : ℕ) (g : ℕ → Float) (f : ℕ → ℕ → Float) (xs : List Float) (j : ℕ) : Type 0 where
@@ -33,11 +33,6 @@ module _ {limit width i lo : ℕ} {g : ℕ → Float} {f : ℕ → ℕ → Float
   pub along-turns : {ys : List Float} {x : Float} → HoldsIn limit width ys (put i j x (tableOf limit width xs)) → x ≡ g j → AlongIn limit width i lo g f ys (j + 1)
   along-turns k e =
       record { from = omega arith; holds = record { long = k .long; is = k .is ∙ rw (e, h .holds .is) (span-step i g f lo j (h .from)) } }
-
-  -- Several places at once.
-  pub along-joins : {hi : ℕ} {e : ℕ → Float} {ys : List Float} → HoldsIn limit width ys (span i j hi e (tableOf limit width xs)) → j ≤ hi → ((a : ℕ) → j ≤ a → a < hi → e a ≡ g a) → AlongIn limit width i lo g f ys hi
-  along-joins {hi} {e} k l same =
-      record { from = omega (arith, h .from); holds = record { long = k .long; is = k .is ∙ rw (h .holds .is) (span-joins i g f lo j hi e (h .from) l same) } }
 
   pub along-ends : {hi : ℕ} → j ≤ hi → hi ≤ j → HoldsIn limit width xs (span i lo hi g f)
   along-ends l m = rw (le-antisymm l m) at (h .holds)
@@ -71,11 +66,6 @@ module _ {limit width lo : ℕ} {g f : ℕ → ℕ → Float} {xs : List Float} 
   pub down-puts : (j : ℕ) {x y : Float} {ys : List Float} → HoldsIn limit width ys (put i j x (tableOf limit width xs)) → x ≡ y → replace j y (f i) ≡ g i → DownIn limit width lo g f ys (i + 1)
   unfolding put
   down-puts j {x} k q e = down-turns {row = replace j x (tableOf limit width xs i)} k (rw (q, down-due i (le-refl i)) e)
-
-  -- Several rows at once.
-  pub down-joins : {hi : ℕ} {e : ℕ → ℕ → Float} {ys : List Float} → HoldsIn limit width ys (between i hi e (tableOf limit width xs)) → i ≤ hi → ((a : ℕ) → i ≤ a → a < hi → e a ≡ g a) → DownIn limit width lo g f ys hi
-  down-joins {hi} {e} k l same =
-      record { from = omega (arith, h .from); holds = record { long = k .long; is = k .is ∙ rw (h .holds .is) (between-joins lo i hi g e f (h .from) l same) } }
 
   pub down-ends : {hi : ℕ} → i ≤ hi → hi ≤ i → HoldsIn limit width xs (between lo hi g f)
   down-ends l m = rw (le-antisymm l m) at (h .holds)

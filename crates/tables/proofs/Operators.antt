@@ -1,7 +1,6 @@
 -- The laws of the operators on sequences and tables: none, step, past.
 use mathlib.Core.Path.{_≡_, refl, sym, ap, _∙_, fun-ext}
-use Prim.Native.Nat.{ℕ, suc, _+_, _≤_, _<_}
-use native.Mathlib.Nat.{le-refl}
+use Prim.Native.Nat.{ℕ, _+_, _≤_, _<_}
 use native.Mathlib.Omega.{arith}
 use lib.Ieee.{Float}
 use borrow.Author.Tests.{lt-ltb, le-ltb, le-leb, lt-leb, eq-eqb, ne-eqb}
@@ -54,9 +53,6 @@ module _ {A : Type 0} where
       (λ m. between-in lo hi g f a l m ∙ e a l m ∙ sym (between-in lo hi h f a l m)))
       (λ l. between-low lo hi g f a l ∙ sym (between-low lo hi h f a l)))
 
-  pub between-own : (lo hi : ℕ) (f : ℕ → A) → between lo hi f f ≡ f
-  between-own lo hi f = fun-ext (λ a. by-order lo a (λ l. by-order hi a (λ m. between-past lo hi f f a m) (λ m. between-in lo hi f f a l m)) (λ l. between-low lo hi f f a l))
-
   pub between-step : (lo hi : ℕ) (g f : ℕ → A) → lo ≤ hi → replace hi (g hi) (between lo hi g f) ≡ between lo (hi + 1) g f
   between-step lo hi g f l =
       fun-ext (λ a. by-equal a hi
@@ -70,48 +66,6 @@ module _ {A : Type 0} where
           (λ q. between-past lo hi g f a q ∙ sym (between-past lo (hi + 1) g f a (omega arith)))
           (λ q. between-in lo hi g f a h q ∙ sym (between-in lo (hi + 1) g f a h (omega arith))))
           (λ q. between-low lo hi g f a q ∙ sym (between-low lo (hi + 1) g f a q))
-
-  -- One more in front.
-  pub between-front : (lo hi : ℕ) (g f : ℕ → A) → lo < hi → replace lo (g lo) (between (suc lo) hi g f) ≡ between lo hi g f
-  between-front lo hi g f l =
-      fun-ext (λ a. by-equal a lo
-      (λ e. rw e (replace-same lo (g lo) (between (suc lo) hi g f) ∙ sym (between-in lo hi g f lo (le-refl lo) l)))
-      (λ n. replace-other lo (g lo) (between (suc lo) hi g f) a n ∙ by-order a lo
-      (λ o. between-low (suc lo) hi g f a (omega arith) ∙ sym (between-low lo hi g f a (omega arith)))
-      (λ o. by-order hi a
-      (λ p. between-past (suc lo) hi g f a p ∙ sym (between-past lo hi g f a p))
-      (λ p. between-in (suc lo) hi g f a o p ∙ sym (between-in lo hi g f a (omega arith) p)))))
-
-  -- From lo up to mid, and then up to hi.
-  pub between-joins : (lo mid hi : ℕ) (g h f : ℕ → A) → lo ≤ mid → mid ≤ hi → ((a : ℕ) → mid ≤ a → a < hi → h a ≡ g a) → between mid hi h (between lo mid g f) ≡ between lo hi g f
-  between-joins lo mid hi g h f l m e = fun-ext (λ a. by-order mid a
-      (λ n. by-order hi a
-      (λ o. between-past mid hi h (between lo mid g f) a o ∙ between-past lo mid g f a n ∙ sym (between-past lo hi g f a o))
-      (λ o. between-in mid hi h (between lo mid g f) a n o ∙ e a n o ∙ sym (between-in lo hi g f a (omega arith) o)))
-      (λ n. between-low mid hi h (between lo mid g f) a n ∙ by-order lo a
-      (λ o. between-in lo mid g f a o n ∙ sym (between-in lo hi g f a o (omega arith)))
-      (λ o. between-low lo mid g f a o ∙ sym (between-low lo hi g f a o))))
-
-  -- The same places again.
-  pub between-over : (lo hi : ℕ) (g h f : ℕ → A) → between lo hi g (between lo hi h f) ≡ between lo hi g f
-  between-over lo hi g h f = fun-ext (λ a. by-order lo a
-      (λ l. by-order hi a
-      (λ m. between-past lo hi g (between lo hi h f) a m ∙ between-past lo hi h f a m ∙ sym (between-past lo hi g f a m))
-      (λ m. between-in lo hi g (between lo hi h f) a l m ∙ sym (between-in lo hi g f a l m)))
-      (λ l. between-low lo hi g (between lo hi h f) a l ∙ between-low lo hi h f a l ∙ sym (between-low lo hi g f a l)))
-
-  -- A place before them.
-  pub between-before : (k : ℕ) (x : A) (lo hi : ℕ) (g f : ℕ → A) → k < lo → between lo hi g (replace k x f) ≡ replace k x (between lo hi g f)
-  between-before k x lo hi g f l = fun-ext (λ a. by-equal a k
-      (λ e. rw e (between-low lo hi g (replace k x f) k l ∙ replace-same k x f ∙ sym (replace-same k x (between lo hi g f))))
-      (λ n. other a n ∙ sym (replace-other k x (between lo hi g f) a n)))
-    where
-      other : (a : ℕ) → (a ≡ k → ⊥) → between lo hi g (replace k x f) a ≡ between lo hi g f a
-      other a n = by-order lo a
-          (λ p. by-order hi a
-          (λ q. between-past lo hi g (replace k x f) a q ∙ replace-other k x f a n ∙ sym (between-past lo hi g f a q))
-          (λ q. between-in lo hi g (replace k x f) a p q ∙ sym (between-in lo hi g f a p q)))
-          (λ p. between-low lo hi g (replace k x f) a p ∙ replace-other k x f a n ∙ sym (between-low lo hi g f a p))
 
 -- A place of a table that was put, and any other place.
 pub put-at : (i j : ℕ) (x : Float) (f : ℕ → ℕ → Float) → put i j x f i j ≡ x
@@ -146,8 +100,3 @@ module _ (i : ℕ) (g : ℕ → Float) (f : ℕ → ℕ → Float) where
   pub span-row : (lo hi a : ℕ) → (a ≡ i → ⊥) → span i lo hi g f a ≡ f a
   unfolding span
   span-row lo hi a n = replace-other i (between lo hi g (f i)) f a n
-
-  pub span-joins : (lo mid hi : ℕ) (h : ℕ → Float) → lo ≤ mid → mid ≤ hi → ((a : ℕ) → mid ≤ a → a < hi → h a ≡ g a) → span i mid hi h (span i lo mid g f) ≡ span i lo hi g f
-  unfolding span
-  span-joins lo mid hi h l m e =
-      rw (replace-same i (between lo mid g (f i)) f, replace-twice i (between mid hi h (between lo mid g (f i))) (between lo mid g (f i)) f, between-joins lo mid hi g h (f i) l m e)

@@ -1,7 +1,6 @@
 // Question 9 of document 01: the lowest stage that no chain of moves leads out of. The stages that get out are
 // marked backwards from the exits.
 ghost use Prim.Native.Nat.{_≤_};
-ghost use mathlib.Core.Path.{_≡_};
 ghost use mathlib.Core.Bool.{false};
 ghost use lib.ListN.{getD};
 ghost use Rattle.definitions.specs.Questions.{question9, getsOut, askStages};

@@ -1,6 +1,6 @@
 -- `columns::pass` meets its contract: before turn s the rows of the turns before it are done and told. Assumes nothing.
-use mathlib.Core.Path.{_≡_, refl}
-use Prim.Native.Nat.{_≤_, _<_, _+_, _-_, suc}
+use mathlib.Core.Path.{refl}
+use Prim.Native.Nat.{_≤_, _<_, _-_}
 use native.Mathlib.Omega.{arith}
 use lib.Ieee.{ofBits}
 use borrow.Author.Needs.{needs}

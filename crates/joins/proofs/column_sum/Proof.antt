@@ -10,7 +10,7 @@ use Rattle.rounding.proofs.Words.{zero-word}
 use Rattle.tables.specs.RowMajor.{table}
 use Rattle.tables.specs.Vectors.{vector}
 use Rattle.compact.specs.Listing.{marked}
-use Rattle.joins.specs.Columns.{knows, KnownSum}
+use Rattle.joins.specs.StageJoin.{knows, KnownSum}
 use Rattle.joins.proofs.ColumnSteps.{known-none, known-adds, known-skips, known-all}
 use Rattle.joins.proofs.column_sum.Statement.{statement}
 use Rattle.joins.proofs.column_sum.Tie as tie

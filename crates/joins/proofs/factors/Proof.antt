@@ -12,7 +12,7 @@ use Rattle.tables.specs.Operators.{between}
 use Rattle.tables.specs.Vectors.{vector, VectorHolds}
 use Rattle.tables.proofs.Vectors.{vector-begins, vector-turns, vector-ends}
 use Rattle.compact.specs.Listing.{marked}
-use Rattle.joins.specs.Columns.{knows, factorsOf, factorsInRange}
+use Rattle.joins.specs.StageJoin.{knows, factorsOf, factorsInRange}
 use Rattle.joins.proofs.factors.Statement.{statement}
 use Rattle.joins.proofs.factors.Tie as tie
 

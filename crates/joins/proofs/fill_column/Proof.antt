@@ -10,7 +10,7 @@ use Rattle.tables.specs.RowMajor.{table}
 use Rattle.tables.proofs.Loops.{Down, down-begins, down-due, down-turns, down-ends}
 use Rattle.tables.specs.Vectors.{vector}
 use Rattle.compact.specs.Listing.{marked}
-use Rattle.joins.specs.Columns.{knows, columnRow, placeInRange, columnInRange, columnFilled}
+use Rattle.joins.specs.StageJoin.{knows, columnRow, placeInRange, columnInRange, columnFilled}
 use Rattle.joins.proofs.fill_column.Statement.{statement}
 use Rattle.joins.proofs.fill_column.Tie as tie
 

@@ -4,7 +4,7 @@ use borrow.Author.Needs.{needs}
 use Rattle.tables.specs.RowMajor.{table}
 use Rattle.tables.specs.Vectors.{vector}
 use Rattle.compact.specs.Listing.{marked}
-use Rattle.joins.specs.Columns.{knows}
+use Rattle.joins.specs.StageJoin.{knows}
 use Rattle.joins.proofs.ColumnSteps.{place-filled, place-left}
 use Rattle.joins.proofs.fill_place.Statement.{statement}
 use Rattle.joins.proofs.fill_place.Tie as tie

@@ -1,7 +1,7 @@
 -- `joins::is_known` meets its contract. Assumes nothing.
 use mathlib.Core.Path.{refl}
 use borrow.Author.Needs.{needs}
-use Rattle.joins.specs.Columns.{knows}
+use Rattle.joins.specs.StageJoin.{knows}
 use Rattle.joins.proofs.is_known.Statement.{statement}
 use Rattle.joins.proofs.is_known.Tie as tie
 

@@ -1,14 +1,14 @@
 -- `joins::join` meets its contract. Assumes nothing.
 use mathlib.Core.Path.{ap, _∙_}
 use borrow.Author.Needs.{needs}
-use Rattle.definitions.specs.Numbers.{_⊘_, 1·0, divInRange}
+use Rattle.definitions.specs.Numbers.{_⊘_, 1·0}
 use Rattle.rounding.proofs.Words.{zero-word, one-word}
 use Rattle.rounding.proofs.ResultRange.{quotient-test}
 use Rattle.tables.specs.RowMajor.{table}
 use Rattle.tables.specs.Vectors.{vector}
 use Rattle.tables.proofs.Vectors.{zero-vector}
 use Rattle.compact.specs.Listing.{marked}
-use Rattle.joins.specs.Columns.{knows}
+use Rattle.joins.specs.StageJoin.{knows}
 use Rattle.joins.proofs.ColumnSteps.{joined-whole}
 use Rattle.joins.proofs.join.Statement.{statement}
 use Rattle.joins.proofs.join.Tie as tie

@@ -8,7 +8,7 @@ use Rattle.steps.proofs.Gathering.{Gathered, gathered-begins, gathered-turns, g
 use Rattle.tables.specs.RowMajor.{table}
 use Rattle.tables.specs.Vectors.{vector}
 use Rattle.tables.proofs.Loops.{Down, down-begins, down-due, down-turns, down-ends}
-use Rattle.kept.specs.Scaled.{scaledRow, rowInRange}
+use Rattle.kept.specs.Scaled.{scaledRow, scaledRowInRange}
 use Rattle.kept.proofs.system_rows.Statement.{statement}
 use Rattle.kept.proofs.system_rows.Tie as tie
 
@@ -16,7 +16,7 @@ abbrev Inv-loop : tie.InvT-loop
 Inv-loop n r stages t k w s₀ ok₀ p₀ s ok p =
     (p ≤ r)
     × Down 0 (λ o. scaledRow n r stages (table t) (vector k) (vector w) o (table s₀ o)) (table s₀) s p
-    × Gathered (λ o. rowInRange n r stages (table t) (vector k) (vector w) o (table s₀ o)) 0 p ok
+    × Gathered (λ o. scaledRowInRange n r stages (table t) (vector k) (vector w) o (table s₀ o)) 0 p ok
 
 abbrev μ-loop : tie.MeasureT-loop
 μ-loop n r stages t k w s₀ ok₀ p₀ s ok p = r - p
@@ -35,7 +35,7 @@ loop-again c =
     let own = down-due (l .loop .inv .1) p (le-refl p) in (
       omega arith,
       down-turns (l .loop .inv .1) (c .system-row .ensures .holds) (ap (scaledRow (s .n) (s .r) (s .stages .now) (table (s .t .now)) (vector (s .k .now)) (vector (s .w .now)) p) own),
-      gathered-turns (l .loop .inv .2) (c .system-row .ensures .range ∙ ap (rowInRange (s .n) (s .r) (s .stages .now) (table (s .t .now)) (vector (s .k .now)) (vector (s .w .now)) p) own),
+      gathered-turns (l .loop .inv .2) (c .system-row .ensures .range ∙ ap (scaledRowInRange (s .n) (s .r) (s .stages .now) (table (s .t .now)) (vector (s .k .now)) (vector (s .w .now)) p) own),
     )
 
 returns : tie.Need-returns Inv-loop μ-loop

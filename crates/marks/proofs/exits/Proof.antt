@@ -1,11 +1,17 @@
 -- `marks::exits` meets its contract. Assumes nothing.
 use mathlib.Core.Logic.{⊎-elim}
-use mathlib.Core.Path.{refl, sym, ap, _∙_}
+use mathlib.Core.Path.{_≡_, refl, sym, ap, _∙_}
 use mathlib.Core.Bool.{false}
-use Prim.Native.Nat.{_≤_, _-_, zero-le}
+use Prim.Native.Nat.{ℕ, _≤_, _<_, _-_, zero-le}
 use native.Mathlib.Omega.{arith}
 use borrow.Author.Needs.{needs}
+use mathlib.Core.List.{List}
+use lib.Ieee.{Float, binary64, ofBits, lt}
+use Rattle.definitions.specs.Numbers.{_⊕_}
+use Rattle.definitions.specs.Sheet.{place}
 use Rattle.definitions.specs.Questions.{leaves}
+use Rattle.rounding.proofs.Words.{zero-word}
+use Rattle.steps.proofs.Sizes.{diagonal-at}
 use Rattle.marks.specs.Marks.{Marked}
 use Rattle.exact.proofs.Bools.{contrary}
 use Rattle.marks.proofs.Marking.{before, none-marked, first-stage, last-stage, marked-few, at-stage, leave-stage, mark-stage}
@@ -18,6 +24,11 @@ Inv-loop n sheet next₀ i₀ next i = (i ≤ n) × Marked (before (λ k. false)
 abbrev μ-loop : tie.MeasureT-loop
 μ-loop n sheet next₀ i₀ next i = n - i
 
+-- The exit of stage i, by the number at its place.
+exit-is : (n : ℕ) (sheet : List Float) (i : ℕ) {x : Float} → i < n → x ≡ place n sheet i i → lt (ofBits binary64 0) (x ⊕ ofBits binary64 0) ≡ leaves n sheet i
+unfolding leaves
+exit-is n sheet i l h = rw (zero-word, h, diagonal-at n sheet i l)
+
 loop-holds : tie.Need-loop-holds Inv-loop μ-loop
 loop-holds c = (zero-le, first-stage _ _ (none-marked (c .before .pre .few) refl refl))
 
@@ -27,11 +38,12 @@ add-next c = omega (arith, marked-few (c .before .before .before .loop .inv .1))
 loop-again : tie.Need-loop-again Inv-loop μ-loop
 loop-again c =
     let at = c .before .before .before in
-    let l = c .before .before .loop-test .taken in (
+    let l = c .before .before .loop-test .taken in
+    let exit = exit-is _ _ _ l (c .before .number-at .ensures) in (
       omega arith,
       ⊎-elim
-          (λ w. mark-stage _ _ (at .loop .inv .1) l (omega arith) (at-stage _ _ (at .loop .inv .1) l) (sym (c .before .has-exit .ensures) ∙ w .0 .taken) (ap (λ m. m .marked) (w .1)) (ap (λ m. m .count) (w .1)))
-          (λ w. rw (w .1) (leave-stage _ _ (at .loop .inv .1) l (λ t. absurd (contrary _ t (sym (c .before .has-exit .ensures) ∙ w .0 .left)))))
+          (λ w. mark-stage _ _ (at .loop .inv .1) l (omega arith) (at-stage _ _ (at .loop .inv .1) l) (sym exit ∙ w .0 .taken) (ap (λ m. m .marked) (w .1)) (ap (λ m. m .count) (w .1)))
+          (λ w. rw (w .1) (leave-stage _ _ (at .loop .inv .1) l (λ t. absurd (contrary _ t (sym exit ∙ w .0 .left)))))
           (c .if1 .came),
     )
 

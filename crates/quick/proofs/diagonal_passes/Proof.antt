@@ -7,6 +7,7 @@ use borrow.Author.Needs.{needs}
 use denote.Ref.{now}
 use Rattle.definitions.specs.Sheet.{place}
 use Rattle.quick.specs.QuickPass.{PassesOn}
+use Rattle.quick.proofs.QuickNumbers.{parameter-passes}
 use Rattle.quick.proofs.QuickSheets.{flag-more}
 use Rattle.quick.proofs.diagonal_passes.Statement.{statement}
 use Rattle.quick.proofs.diagonal_passes.Tie as tie
@@ -19,9 +20,9 @@ abbrev μ-loop : tie.MeasureT-loop
 
 loop-again : tie.Need-loop-again Inv-loop μ-loop
 loop-again c =
-    let a = c .before .before .before .before .before .args in
-    let at = c .before .before .before .loop in
-    (omega arith, flag-more (λ k. PassesOn a.reading (place a.n (now a.sheet) k k)) _ (at .good) (c .parameter-passes .result) (at .inv .1) (λ t. subst (PassesOn a.reading) (c .before .number-at .ensures) (c .parameter-passes .ensures t)))
+    let a = c .before .before .before .before .args in
+    let at = c .before .before .loop in
+    (omega arith, flag-more (λ k. PassesOn a.reading (place a.n (now a.sheet) k k)) _ (at .good) _ (at .inv .1) (λ t. subst (PassesOn a.reading) (c .number-at .ensures) (parameter-passes _ _ t)))
 
 pub diagonal-passes-spec : {M : Type 1} → statement M
 diagonal-passes-spec =
@@ -30,7 +31,6 @@ diagonal-passes-spec =
     Inv-loop
     μ-loop
     (λ c. (zero-le, λ t k l. absurd (omega arith)))
-    (λ c κs. search needs)
     (λ c κs. search needs)
     (λ c. omega arith)
     (λ c. omega arith)

@@ -7,6 +7,7 @@ use lib.Ieee.{nan}
 use borrow.Author.Needs.{needs}
 use denote.Ref.{now}
 use Rattle.quick.specs.QuickPass.{PassesOff}
+use Rattle.quick.proofs.QuickNumbers.{size-passes}
 use Rattle.quick.proofs.QuickSheets.{flag-more}
 use Rattle.quick.proofs.stretch_passes.Statement.{statement}
 use Rattle.quick.proofs.stretch_passes.Tie as tie
@@ -19,9 +20,9 @@ abbrev μ-loop : tie.MeasureT-loop
 
 loop-again : tie.Need-loop-again Inv-loop μ-loop
 loop-again c =
-    let a = c .before .before .before .before .before .args in
-    let at = c .before .before .before .loop in
-    (omega arith, flag-more (λ m. PassesOff (getD (now a.part) m nan)) _ (at .good) (c .size-passes .result) (at .inv .1) (c .size-passes .ensures))
+    let a = c .before .before .before .args in
+    let at = c .before .before .loop in
+    (omega arith, flag-more (λ m. PassesOff (getD (now a.part) m nan)) _ (at .good) _ (at .inv .1) (size-passes _))
 
 pub stretch-passes-spec : {M : Type 1} → statement M
 stretch-passes-spec =
@@ -32,7 +33,6 @@ stretch-passes-spec =
     (λ c. (zero-le, λ t m l. absurd (omega arith)))
     (λ c. search needs)
     (λ c. search needs)
-    (λ c κs. search needs)
     (λ c. search needs)
     (λ c. search needs)
     loop-again

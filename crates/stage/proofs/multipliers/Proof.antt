@@ -1,5 +1,4 @@
 -- `stage::multipliers` meets its contract: at row i the rows before it are done and told. Assumes nothing.
-use mathlib.Core.Path.{refl}
 use Prim.Native.Nat.{_≤_, _-_, suc}
 use native.Mathlib.Numerals.{add-one}
 use native.Mathlib.Omega.{arith}

@@ -1,6 +1,6 @@
 -- `turns::add_done` meets its contract: the blocks before the one that is due are done. Assumes nothing.
-use mathlib.Core.Path.{_≡_, refl}
-use Prim.Native.Nat.{_≤_, _<_, _+_, _*_, _-_, _/_}
+use mathlib.Core.Path.{refl}
+use Prim.Native.Nat.{_≤_, _<_, _*_, _-_}
 use native.Mathlib.Omega.{arith}
 use borrow.Author.Needs.{needs}
 use Rattle.tables.specs.RowMajor.{table}

@@ -1,5 +1,4 @@
 -- `turns::first_done` meets its contract. Assumes nothing.
-use native.Mathlib.Omega.{arith}
 use borrow.Author.Needs.{needs}
 use Rattle.turns.specs.Turns.{firstDone}
 use Rattle.turns.proofs.first_done.Statement.{statement}

@@ -1,6 +1,4 @@
 -- `turns::skipped` meets its contract. Assumes nothing.
-use native.Mathlib.Omega.{arith}
-use borrow.Author.Needs.{needs}
 use Rattle.turns.specs.Turns.{skipped}
 use Rattle.turns.proofs.skipped.Statement.{statement}
 use Rattle.turns.proofs.skipped.Tie as tie
