@@ -1,4 +1,2 @@
-mod Conditions
 mod ColumnSteps
-mod JoinedPlaces
-pub mod Joining
+pub mod JoinedPlaces

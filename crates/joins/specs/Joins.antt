@@ -1,13 +1,11 @@
--- The stages that are not kept, from n - 1 down, join the table f of sizes t and diagonals a; and what that comes to.
+-- The stages that are not kept, from n - 1 down, join the table f of sizes t and diagonals a.
 use mathlib.Core.Path.{_≡_}
-use Prim.Native.Nat.{ℕ, zero, suc, _-_, _<_}
-use mathlib.Core.Bool.{Bool, true, _||_, cond}
+use Prim.Native.Nat.{ℕ, zero, suc, _-_}
+use mathlib.Core.Bool.{Bool, _||_, cond}
 use mathlib.Core.List.{List}
 use lib.Ieee.{Float}
 use Rattle.definitions.specs.Numbers.{all}
-use Rattle.definitions.specs.Margins as Margins
 use Rattle.tables.specs.RowMajor.{Holds}
-use Rattle.ratios.specs.Ratios.{ratio}
 use Rattle.joins.specs.StageJoin.{knows, joinedTable, joinTest}
 
 module _ (n : ℕ) (t : ℕ → ℕ → Float) (a : ℕ → Float) (kept : ℕ → Bool) where
@@ -33,7 +31,3 @@ module _ (n : ℕ) (t : ℕ → ℕ → Float) (a : ℕ → Float) (kept : ℕ �
   pub record StagesJoin (f : ℕ → ℕ → Float) (q : ℕ) (ok : Bool) (xs : List Float) : Type 0 where
     pub range : ok ≡ stagesTest f q
     pub holds : Holds xs (stagesJoined f q)
-
--- A table that has document 01's x at the stages that are known once q stages are done.
-pub record KnownTable (n : ℕ) (t : ℕ → ℕ → Float) (d : ℕ → Float) (q : ℕ) (f : ℕ → ℕ → Float) : Type 0 where
-  pub right : (i j : ℕ) → i < n → j < n → Margins.known n t d (ratio n t d) q i ≡ true → Margins.known n t d (ratio n t d) q j ≡ true → f i j ≡ Margins.xAfter n t d (ratio n t d) q i j

@@ -17,7 +17,7 @@ fn negate_row(n: usize, i: usize, sheet: &[f64], t: &mut [f64; 1024])
     ensures { λ _. ⌜ Holds (now (t .exit)) (span i 0 n (negated n (now (sheet .entry)) i) (table (now (t .entry)))) ⌝ }
 {
     for j in 0..n {
-        let x = places::number_at(n, i, j, sheet);
+        let x = shape::number_at(n, i, j, sheet);
         row::put(i, j, 0.0 - x, t);
     }
 }
@@ -46,7 +46,7 @@ pub fn rates(n: usize, sheet: &[f64], t: &mut [f64; 1024])
     ensures { λ _. ⌜ Holds (now (t .exit)) (withRates n (now (sheet .entry)) (table (now (t .entry)))) ⌝ }
 {
     for i in 0..n {
-        let x = places::number_at(n, i, i, sheet);
+        let x = shape::number_at(n, i, i, sheet);
         row::put(i, i, x + 0.0, t);
     }
 }
@@ -57,7 +57,7 @@ pub fn margins(n: usize, sheet: &[f64], d: &mut [f64; 32])
     ensures { λ _. ⌜ VectorHolds (now (d .exit)) (between 0 n (diagonal n (now (sheet .entry))) (vector (now (d .entry)))) ⌝ }
 {
     for i in 0..n {
-        let x = places::number_at(n, i, i, sheet);
+        let x = shape::number_at(n, i, i, sheet);
         vector::put(i, x + 0.0, d);
     }
 }

@@ -28,7 +28,7 @@ use Rattle.compact.proofs.Listings.{place-of, listing-stage, listing-same, all-
 use Rattle.ratios.specs.Ratios.{ratio, isKept, RatiosBefore, RatiosTested}
 use Rattle.kept.specs.Scaled.{KeptSystem}
 use Rattle.joins.specs.Joins.{StagesJoin}
-use Rattle.joins.proofs.Joining.{joined-whole-table, joined-tests}
+use Rattle.margins.proofs.Joining.{joined-whole-table, joined-tests}
 use Rattle.way_back.specs.WayBack.{multiple, WayBack}
 use Rattle.margins.specs.MarginsTable.{systemInRange, engineInRange, wayBackInRange, KeptTable, MarginsTable}
 

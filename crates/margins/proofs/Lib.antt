@@ -1,1 +1,3 @@
+mod Conditions
+mod Joining
 mod KeptStages

@@ -1,7 +1,7 @@
 -- The table of a sheet with sizes t and margins d (document 01, "Steps for margins" and question 10).
 use mathlib.Core.Path.{_≡_}
 use Prim.Native.Nat.{ℕ, _<_}
-use mathlib.Core.Bool.{Bool, not, _&&_, _||_}
+use mathlib.Core.Bool.{Bool, true, not, _&&_, _||_}
 use mathlib.Core.List.{List}
 use lib.Dec.{T}
 use lib.Ieee.{Float}
@@ -10,7 +10,10 @@ use Rattle.definitions.specs.LeavingRates.{downward, inRange}
 use Rattle.definitions.specs.Margins as Margins
 use Rattle.tables.specs.RowMajor.{IsTable, table}
 use Rattle.ratios.specs.Ratios.{ratio, isKept}
-use Rattle.joins.specs.Joins.{KnownTable}
+
+-- A table that has document 01's x at the stages that are known once q stages are done.
+pub record KnownTable (n : ℕ) (t : ℕ → ℕ → Float) (d : ℕ → Float) (q : ℕ) (f : ℕ → ℕ → Float) : Type 0 where
+  pub right : (i j : ℕ) → i < n → j < n → Margins.known n t d (ratio n t d) q i ≡ true → Margins.known n t d (ratio n t d) q j ≡ true → f i j ≡ Margins.xAfter n t d (ratio n t d) q i j
 
 module _ (n : ℕ) (t : ℕ → ℕ → Float) (d : ℕ → Float) where
   -- The steps of the kept stages: the new system, the engine, the way back.

@@ -6,7 +6,7 @@ ghost use mathlib.Core.Bool.{_||_};
 ghost use Rattle.definitions.specs.Questions.{moves, leaves};
 ghost use Rattle.shape.specs.Square.{Square};
 ghost use Rattle.marks.specs.Marks.{isMarked, Marked, Counted};
-use places::number_at;
+use shape::number_at;
 
 pub struct Marks {
     pub marked: [bool; 32],

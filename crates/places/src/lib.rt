@@ -1,19 +1,11 @@
-// The places of a sheet, and questions 6, 7 and 8 of document 01 with the first bad place.
+// Questions 6, 7 and 8 of document 01 with the first bad place.
 ghost use Prim.Native.Nat.{_<_};
 ghost use mathlib.Core.Path.{_≡_};
-ghost use Rattle.definitions.specs.Sheet.{place};
 ghost use Rattle.answers.specs.Outcome.{ComesTo};
 ghost use Rattle.shape.specs.Square.{Square};
 ghost use Rattle.places.specs.PlaceQuestions.{signAt, passes, askPlaces};
 use answers::Asked;
-
-// The number at place (i, j) of a sheet.
-pub fn number_at(n: usize, i: usize, j: usize, sheet: &[f64]) -> f64
-    requires { ⌜ Square n (now sheet) × (i < n) × (j < n) ⌝ }
-    ensures { λ r. ⌜ r ≡ place n (now (sheet .entry)) i j ⌝ }
-{
-    sheet[i * n + j]
-}
+use shape::number_at;
 
 // Question 7 of the number x at row i and column j.
 fn right_sign(reading: usize, i: usize, j: usize, x: f64) -> bool

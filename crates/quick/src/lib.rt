@@ -6,7 +6,7 @@ ghost use Rattle.definitions.specs.Questions.{pass};
 ghost use Rattle.shape.specs.Square.{Square};
 ghost use Rattle.places.specs.PlaceQuestions.{placeQuestions};
 ghost use Rattle.quick.specs.QuickPass.{DiagonalPasses, StretchPasses, SizesPass};
-use places::number_at;
+use shape::number_at;
 
 // Questions 6, 7 and 8 of the diagonal: each number is zero (reading 1), or from 2^-1022 to the largest number.
 fn diagonal_passes(reading: usize, n: usize, sheet: &[f64]) -> bool

@@ -1,8 +1,12 @@
 // Questions 1 to 5 of document 01: the reading, the number of stages, the lengths of the lent areas and the
 // stages asked for. Each answers 0, or the number of the first question that is answered no; their refusals
-// have no row and no column.
+// have no row and no column. And the number at a place of a sheet of that shape.
+ghost use Prim.Native.Nat.{_<_};
+ghost use mathlib.Core.Path.{_≡_};
+ghost use Rattle.definitions.specs.Sheet.{place};
 ghost use Rattle.definitions.specs.Questions.{_then_, question1, question2, question3, question4, question5};
 ghost use Rattle.answers.specs.Outcome.{ComesTo};
+ghost use Rattle.shape.specs.Square.{Square};
 
 // Questions 1, 2 and 3. n * n is formed only once n is known to be small.
 fn ask_shape(reading: usize, n: usize, held: usize) -> usize
@@ -46,4 +50,12 @@ pub fn ask_entry(reading: usize, n: usize, held: usize, i: usize, j: usize) -> u
         return 5;
     }
     0
+}
+
+// The number at place (i, j) of a sheet.
+pub fn number_at(n: usize, i: usize, j: usize, sheet: &[f64]) -> f64
+    requires { ⌜ Square n (now sheet) × (i < n) × (j < n) ⌝ }
+    ensures { λ r. ⌜ r ≡ place n (now (sheet .entry)) i j ⌝ }
+{
+    sheet[i * n + j]
 }

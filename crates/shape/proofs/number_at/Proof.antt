@@ -1,9 +1,9 @@
--- `places::number_at` meets its contract. Assumes nothing.
+-- `shape::number_at` meets its contract. Assumes nothing.
 use native.Mathlib.Omega.{arith}
 use borrow.Author.Needs.{needs}
 use Rattle.shape.proofs.Square.{place-inside}
-use Rattle.places.proofs.number_at.Statement.{statement}
-use Rattle.places.proofs.number_at.Tie as tie
+use Rattle.shape.proofs.number_at.Statement.{statement}
+use Rattle.shape.proofs.number_at.Tie as tie
 
 pub number-at-spec : {M : Type 1} → statement M
 number-at-spec =

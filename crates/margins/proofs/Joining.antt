@@ -19,10 +19,11 @@ use Rattle.steps.proofs.MarginsSteps.{known-is, x-kept, join-corner, join-row, 
 use Rattle.tables.specs.Vectors.{vector}
 use Rattle.compact.specs.Listing.{marked}
 use Rattle.ratios.specs.Ratios.{ratio, diagonalOf, isKept, Diagonals, KeptMask}
 use Rattle.joins.specs.StageJoin.{knows, factorsOf, factorsInRange, placeInRange, columnInRange, joinedTable, joinTest}
-use Rattle.joins.specs.Joins.{dueJoined, dueTest, stagesJoined, stagesTest, KnownTable}
-use Rattle.joins.proofs.Conditions.{asked-once}
+use Rattle.joins.specs.Joins.{dueJoined, dueTest, stagesJoined, stagesTest}
+use Rattle.margins.proofs.Conditions.{asked-once}
 use Rattle.joins.proofs.JoinedPlaces.{factor-at, at-corner, at-row, at-column, at-other}
+use Rattle.margins.specs.MarginsTable.{KnownTable}
 
 -- ---- a finite sum over the stages that pass a test has every addition in range
 module _ (test : ℕ → Bool) (f : ℕ → Float) where
