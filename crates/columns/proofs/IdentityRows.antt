@@ -1,16 +1,14 @@
--- The rows of the identity, as table operations.
+-- The rows of the identity.
 use mathlib.Core.Path.{_≡_, refl, sym, ap, _∙_, fun-ext}
 use Prim.Native.Nat.{ℕ, _<_}
 use native.Mathlib.Omega.{arith}
-use mathlib.Core.List.{List}
 use lib.Ieee.{Float}
 use borrow.Author.Tests.{eq-eqb, ne-eqb}
 use Rattle.definitions.specs.Numbers.{0·0, 1·0}
-use Rattle.tables.specs.RowMajor.{table, Holds}
-use Rattle.tables.specs.Operators.{replace, between, put, span}
+use Rattle.tables.specs.Operators.{replace, between}
 use Rattle.passes.specs.RowPass.{identityRow}
 use Rattle.exact.proofs.Cases.{by-equal, by-order}
-use Rattle.tables.proofs.Operators.{replace-same, replace-other, between-in, between-past, put-replaced}
+use Rattle.tables.proofs.Operators.{replace-same, replace-other, between-in, between-past}
 
 one-of-identity : (i : ℕ) → identityRow i i ≡ 1·0
 unfolding identityRow
@@ -21,25 +19,10 @@ unfolding identityRow
 zero-of-identity i j n = rw (ne-eqb i j (λ e. n (sym e)))
 
 -- Zeros with a one on the diagonal.
-unit-row : (i r : ℕ) (own : ℕ → Float) → i < r → replace i 1·0 (between 0 r (λ _. 0·0) own) ≡ between 0 r (identityRow i) own
-unit-row i r own h =
+pub unit-row : (i r : ℕ) {own : ℕ → Float} → i < r → own ≡ (λ _. 0·0) → replace i 1·0 own ≡ between 0 r (identityRow i) own
+unit-row i r {own} h z =
     fun-ext (λ j. by-equal j i
-    (λ e. rw e (replace-same i 1·0 (between 0 r (λ _. 0·0) own) ∙ sym (one-of-identity i) ∙ sym (between-in 0 r (identityRow i) own i (omega arith) h)))
-    (λ n. replace-other i 1·0 (between 0 r (λ _. 0·0) own) j n ∙ by-order r j
-    (λ l. between-past 0 r (λ _. 0·0) own j l ∙ sym (between-past 0 r (identityRow i) own j l))
-    (λ l. between-in 0 r (λ _. 0·0) own j (omega arith) l ∙ sym (zero-of-identity i j n) ∙ sym (between-in 0 r (identityRow i) own j (omega arith) l))))
-
-pub row-of-identity : (i r : ℕ) (f : ℕ → ℕ → Float) {xs ys : List Float} → i < r
-    → Holds xs (span i 0 r (λ _. 0·0) f)
-    → Holds ys (put i i 1·0 (table xs))
-    → Holds ys (replace i (between 0 r (identityRow i) (f i)) f)
-unfolding span
-row-of-identity i r f l h k =
-    record {
-      long = k .long;
-      is =
-          k .is
-          ∙ ap (put i i 1·0) (h .is)
-          ∙ put-replaced i i 1·0 (between 0 r (λ _. 0·0) (f i)) f
-          ∙ ap (λ (row : ℕ → Float). replace i row f) (unit-row i r (f i) l);
-    }
+    (λ e. rw e (replace-same i 1·0 own ∙ sym (one-of-identity i) ∙ sym (between-in 0 r (identityRow i) own i (omega arith) h)))
+    (λ n. replace-other i 1·0 own j n ∙ by-order r j
+    (λ l. sym (between-past 0 r (identityRow i) own j l))
+    (λ l. ap (λ (row : ℕ → Float). row j) z ∙ sym (zero-of-identity i j n) ∙ sym (between-in 0 r (identityRow i) own j (omega arith) l))))

@@ -8,18 +8,17 @@ use tables::row;
 ghost use mathlib.Core.Path.{_≡_};
 ghost use Prim.Native.Nat.{_≤_, _<_};
 ghost use Rattle.definitions.specs.Numbers.{all};
-ghost use Rattle.tables.specs.RowMajor.{IsTable, table, Holds, Gives};
+ghost use Rattle.tables.specs.RowMajor.{IsTable, ZeroTable, table, Holds, Gives};
 ghost use Rattle.ranges.specs.Quick.{productsAt};
 ghost use Rattle.passes.specs.RowPass.{turn, reach, identityRows, dividedRows, quotientsInRange};
 ghost use Rattle.columns.specs.Columns.{CoversDone, TurnTold, PassStarts, PassDone};
 
-// The identity of r × r.
+// The identity of r × r, in a table of zeros.
 pub fn identity(r: usize, b: &mut [f64; 1024])
-    requires { ⌜ (r ≤ 32) × IsTable (now b) ⌝ }
+    requires { ⌜ (r ≤ 32) × ZeroTable (now b) ⌝ }
     ensures { λ _. ⌜ Holds (now (b .exit)) (identityRows r r (table (now (b .entry)))) ⌝ }
 {
     for i in 0..r {
-        row::clear(i, r, b);
         row::put(i, i, 1.0, b);
     }
 }

@@ -3,14 +3,14 @@
 //
 // The working tables are 1,024 numbers, 32 to a row, whatever r is.
 ghost use Prim.Native.Nat.{_≤_};
-ghost use Rattle.tables.specs.RowMajor.{IsTable, table};
+ghost use Rattle.tables.specs.RowMajor.{IsTable, ZeroTable, table};
 ghost use Rattle.elimination.specs.Quotients.{QuotientTable};
 
-// The whole table of quotients, in b, of the system in t; true if every step is in range. What b holds
-// before does not matter; afterwards it is left open outside r × r, and everywhere where a step is not in
-// range, and so is t.
+// The whole table of quotients, in b, of the system in t; true if every step is in range. b holds zeros
+// before; afterwards it is left open outside r × r, and everywhere where a step is not in range, and so is
+// t.
 pub fn solve(r: usize, t: &mut [f64; 1024], b: &mut [f64; 1024]) -> bool
-    requires { ⌜ (r ≤ 32) × IsTable (now t) × IsTable (now b) ⌝ }
+    requires { ⌜ (r ≤ 32) × IsTable (now t) × ZeroTable (now b) ⌝ }
     ensures { λ ok. ⌜ QuotientTable r (table (now (t .entry))) ok (now (b .exit)) ⌝ }
 {
     if !downward::shared(r, t) {

@@ -27,6 +27,9 @@ table xs = tableOf 32 32 xs
 abbrev pub Holds : List Float → (ℕ → ℕ → Float) → Type 0
 Holds xs f = HoldsIn 32 32 xs f
 
+abbrev pub ZeroTable : List Float → Type 0
+ZeroTable xs = Holds xs (λ _ _. 0·0)
+
 -- A function that changes a working table, and tells by ok whether its steps are in range.
 pub record Gives (ok test : Bool) (xs : List Float) (f : ℕ → ℕ → Float) : Type 0 where
   pub range : ok ≡ test

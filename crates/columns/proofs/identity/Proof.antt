@@ -1,15 +1,14 @@
 -- `columns::identity` meets its contract: at row i the rows before it are done. Assumes nothing.
 use mathlib.Core.Path.{refl, ap}
 use Prim.Native.Nat.{_≤_, _-_}
-use native.Mathlib.Nat.{le-refl}
 use native.Mathlib.Omega.{arith}
 use lib.Ieee.{ofBits}
 use borrow.Author.Needs.{needs}
 use Rattle.tables.specs.RowMajor.{table}
 use Rattle.tables.specs.Operators.{between}
 use Rattle.passes.specs.RowPass.{identityRow, identityRows}
-use Rattle.columns.proofs.IdentityRows.{row-of-identity}
-use Rattle.tables.proofs.Loops.{Down, down-begins, down-due, down-turns, down-ends}
+use Rattle.columns.proofs.IdentityRows.{unit-row}
+use Rattle.tables.proofs.Loops.{Down, down-begins, down-puts, down-ends}
 use Rattle.columns.proofs.identity.Statement.{statement}
 use Rattle.columns.proofs.identity.Tie as tie
 
@@ -22,9 +21,9 @@ abbrev μ-loop : tie.MeasureT-loop
 loop-again : tie.Need-loop-again Inv-loop μ-loop
 unfolding ofBits
 loop-again c =
-    let l = c .before .before .before .before .before in
-    let h = l .loop .inv .1 in
-    (omega arith, down-turns h (row-of-identity (l .loop .i) (l .before .args .r) (table (l .loop .b)) (omega arith) (c .before .before .clear .ensures) (c .put .ensures)) (ap (between 0 (l .before .args .r) (identityRow (l .loop .i))) (down-due h (l .loop .i) (le-refl (l .loop .i)))))
+    let l = c .before .before .before in
+    let i = l .loop .i in
+    (omega arith, down-puts (l .loop .inv .1) i (c .put .ensures) refl (unit-row i (l .before .args .r) (omega arith) (ap (λ f. f i) (l .before .pre .1 .is))))
 
 returns : tie.Need-returns Inv-loop μ-loop
 unfolding identityRows
@@ -36,8 +35,7 @@ identity-spec =
     (tie.spec
     Inv-loop
     μ-loop
-    (λ c. (search needs, down-begins refl (c .pre .1)))
-    (λ c κs. search needs)
+    (λ c. (search needs, down-begins refl (c .pre .1 .long)))
     (λ c κs. search needs)
     (λ c. search needs)
     (λ c. search needs)

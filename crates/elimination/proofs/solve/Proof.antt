@@ -9,7 +9,7 @@ use Rattle.elimination.proofs.solve.Tie as tie
 returns : tie.Need-returns
 returns c =
     let s = c .before .before .before in
-    out-of-range (s .args .r) (table (s .args .t .now)) (c .before .shared .ensures) (not-true (c .before .shared .result) (c .if1 .taken)) (s .pre .2)
+    out-of-range (s .args .r) (table (s .args .t .now)) (c .before .shared .ensures) (not-true (c .before .shared .result) (c .if1 .taken)) (s .pre .2 .long)
 
 pass-requires : tie.Need-pass-requires
 pass-requires c κs =

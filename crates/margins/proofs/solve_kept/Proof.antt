@@ -1,7 +1,9 @@
 -- `margins::solve_kept` meets its contract. Assumes nothing.
 use mathlib.Core.Path.{refl}
 use borrow.Author.Tests.{not-true, not-false}
+use Rattle.rounding.proofs.Words.{zero-word}
 use Rattle.tables.specs.RowMajor.{table}
+use Rattle.tables.proofs.Vectors.{new-table}
 use Rattle.compact.proofs.Listings.{listing-stages, stages-wider}
 use Rattle.margins.proofs.KeptStages.{engine-fails, kept-table}
 use Rattle.margins.proofs.solve_kept.Statement.{statement}
@@ -20,7 +22,7 @@ solve-requires : tie.Need-solve-requires
 solve-requires c κs =
     let system = c .before .before in
     let listed = system .before .before .before in
-    (listing-stages (listed .list .ensures) (listed .before .before .pre .0) .room, system .system .ensures .long, refl)
+    (listing-stages (listed .list .ensures) (listed .before .before .pre .0) .room, system .system .ensures .long, new-table zero-word)
 
 returns : tie.Need-returns
 returns c =

@@ -1,8 +1,9 @@
 -- `planner::entry_of_sheet` meets its contract. Assumes nothing.
-use mathlib.Core.Path.{refl}
 use native.Mathlib.Omega.{arith}
 use denote.Ref.{now}
 use Prim.Native.Nat.{_≤_}
+use Rattle.rounding.proofs.Words.{zero-word}
+use Rattle.tables.proofs.Vectors.{new-table}
 use Rattle.shape.specs.Square.{Square}
 use Rattle.shape.proofs.ShapeQuestions.{entry-input-passed}
 use Rattle.definitions.specs.Accuracy.{Binary64}
@@ -39,4 +40,4 @@ returns-2 c =
 
 pub entry-of-sheet-spec : {M : Type 1} → statement M
 entry-of-sheet-spec =
-    tie.close (tie.spec (λ c κs. (stages (c .before .before) .0, refl)) sub-get sub-get-2 get-requires returns returns-2)
+    tie.close (tie.spec (λ c κs. (stages (c .before .before) .0, new-table zero-word)) sub-get sub-get-2 get-requires returns returns-2)

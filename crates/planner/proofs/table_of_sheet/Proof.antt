@@ -1,10 +1,11 @@
 -- `planner::table_of_sheet` meets its contract. Assumes nothing.
-use mathlib.Core.Path.{refl}
 use native.Mathlib.Omega.{arith}
 use borrow.Author.Needs.{needs}
 use denote.Ref.{now}
 use lib.ListN.{length}
 use Prim.Native.Nat.{_*_, _≤_}
+use Rattle.rounding.proofs.Words.{zero-word}
+use Rattle.tables.proofs.Vectors.{new-table}
 use Rattle.shape.specs.Square.{Square}
 use Rattle.shape.proofs.ShapeQuestions.{table-input-passed}
 use Rattle.definitions.specs.Accuracy.{Binary64}
@@ -39,4 +40,4 @@ returns-2 c =
 pub table-of-sheet-spec : {M : Type 1} → statement M
 table-of-sheet-spec =
     tie.close
-    (tie.spec (λ c κs. (input (c .before .before .before) .0, refl)) write-requires allowance-of-requires (λ c. search needs) returns returns-2)
+    (tie.spec (λ c κs. (input (c .before .before .before) .0, new-table zero-word)) write-requires allowance-of-requires (λ c. search needs) returns returns-2)
