@@ -1,3 +1,3 @@
 pub mod Bounds
-pub mod Fours
+mod Fours
 pub mod QuickTest

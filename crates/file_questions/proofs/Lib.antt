@@ -1,2 +1,2 @@
-pub mod HeadAndRows
+mod HeadAndRows
 pub mod Judging

@@ -1,8 +1,8 @@
-pub mod Integers
+mod Integers
 pub mod PartialSums
-pub mod SignedFractions
-pub mod Reduction
+mod SignedFractions
+mod Reduction
 pub mod ExactRatios
 pub mod ExactScaled
-pub mod RowForms
+mod RowForms
 pub mod ReducedReadings

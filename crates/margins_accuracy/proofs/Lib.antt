@@ -1,11 +1,11 @@
-pub mod MarginsCounts
-pub mod MarginsEntries
-pub mod MarginsExact
-pub mod MarginsJoins
-pub mod MarginsKept
-pub mod MarginsPacked
-pub mod MarginsRange
-pub mod MarginsRatios
-pub mod MarginsStart
-pub mod MarginsSums
+mod MarginsCounts
+mod MarginsEntries
+mod MarginsExact
+mod MarginsJoins
+mod MarginsKept
+mod MarginsPacked
+mod MarginsRange
+mod MarginsRatios
+mod MarginsStart
+mod MarginsSums
 pub mod MarginsAccuracy

@@ -1,7 +1,7 @@
 -- What the tests tell; the steps that serve every column; the steps on b, row by row.
 pub mod Told
-pub mod FinitePivots
-pub mod StagePlaces
+mod FinitePivots
+mod StagePlaces
 pub mod SharedSteps
 pub mod FiniteStages
 pub mod RowPass

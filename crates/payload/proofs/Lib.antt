@@ -1,2 +1,2 @@
-pub mod Filling
+mod Filling
 pub mod FileWords

@@ -1,2 +1,2 @@
-pub mod QuickNumbers
-pub mod QuickSheets
+mod QuickNumbers
+mod QuickSheets

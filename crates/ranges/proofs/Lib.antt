@@ -1,3 +1,3 @@
 pub mod Multiples
-pub mod RowTests
+mod RowTests
 pub mod PassTests

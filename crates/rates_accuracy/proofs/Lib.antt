@@ -1,9 +1,9 @@
 pub mod OperationErrors
-pub mod PivotErrors
+mod PivotErrors
 pub mod LeavingRatesRange
-pub mod LeavingRatesStages
-pub mod LeavingRatesColumn
-pub mod LeavingRatesUpward
+mod LeavingRatesStages
+mod LeavingRatesColumn
+mod LeavingRatesUpward
 pub mod LeavingRatesAccuracy
 pub mod Pivots
 pub mod Input

@@ -1,2 +1,2 @@
-pub mod Little
+mod Little
 pub mod Records

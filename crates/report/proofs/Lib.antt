@@ -1,1 +1,1 @@
-pub mod Reporting
+mod Reporting

@@ -1,8 +1,8 @@
 pub mod Value
-pub mod Grid
+mod Grid
 pub mod Round
-pub mod Compare
-pub mod Operations
+mod Compare
+mod Operations
 pub mod Laws
 pub mod Order
 pub mod Reversed

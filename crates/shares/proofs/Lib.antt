@@ -1,1 +1,1 @@
-pub mod Sharing
+mod Sharing

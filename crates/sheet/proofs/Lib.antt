@@ -1,1 +1,1 @@
-pub mod InOrder
+mod InOrder

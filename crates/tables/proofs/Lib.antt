@@ -1,6 +1,6 @@
 -- Tables and vectors as functions, and the invariants of loops over them.
 pub mod Operators
-pub mod RowMajor
+mod RowMajor
 pub mod Vectors
 pub mod Loops
 pub mod Rows
