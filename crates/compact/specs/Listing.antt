@@ -6,7 +6,10 @@ use mathlib.Core.List.{List}
 use lib.ListN.{length, getD, take}
 use Rattle.definitions.specs.Margins.{stagesWith, rank}
 
--- The stages that a mask marks.
+-- A mark for each of the 32 places; and the stages that a mask marks.
+abbrev pub IsMask : List Bool → Type 0
+IsMask mask = length mask ≡ 32
+
 abbrev pub marked : List Bool → ℕ → Bool
 marked mask i = getD mask i false
 

@@ -4,13 +4,13 @@ ghost use Prim.Native.Nat.{suc, _≤_, _<_};
 ghost use lib.ListN.{length};
 ghost use Rattle.tables.specs.RowMajor.{IsTable, table, Holds};
 ghost use Rattle.tables.specs.Operators.{span};
-ghost use Rattle.compact.specs.Listing.{marked, stageAt, Listing, Stages};
+ghost use Rattle.compact.specs.Listing.{IsMask, marked, stageAt, Listing, Stages};
 ghost use Rattle.compact.specs.Compact.{Packed, UnpackedRow, Unpacked};
 use tables::row;
 
 // Stage i follows the r listed stages before it, if the mask marks it. The result is the new count.
 fn list_stage(i: usize, r: usize, mask: &[bool; 32], stages: &mut [usize; 32]) -> usize
-    requires { ⌜ (i < 32) × (length (now mask) ≡ 32) × Listing (marked (now mask)) i r (now stages) ⌝ }
+    requires { ⌜ (i < 32) × IsMask (now mask) × Listing (marked (now mask)) i r (now stages) ⌝ }
     ensures { λ count. ⌜ Listing (marked (now (mask .entry))) (suc i) count (now (stages .exit)) ⌝ }
 {
     if mask[i] {
@@ -22,7 +22,7 @@ fn list_stage(i: usize, r: usize, mask: &[bool; 32], stages: &mut [usize; 32]) -
 
 // The stages below n that the mask marks. The result is their count; later places of the list are left open.
 pub fn list(n: usize, mask: &[bool; 32], stages: &mut [usize; 32]) -> usize
-    requires { ⌜ (n ≤ 32) × (length (now mask) ≡ 32) × (length (now stages) ≡ 32) ⌝ }
+    requires { ⌜ (n ≤ 32) × IsMask (now mask) × (length (now stages) ≡ 32) ⌝ }
     ensures { λ count. ⌜ Listing (marked (now (mask .entry))) n count (now (stages .exit)) ⌝ }
 {
     let mut r = 0;

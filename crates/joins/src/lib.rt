@@ -1,10 +1,9 @@
 // The stages that are not kept join the known ones, from the highest down (document 01, "Steps for margins").
 ghost use mathlib.Core.Path.{_≡_};
 ghost use Prim.Native.Nat.{_≤_, _<_};
-ghost use lib.ListN.{length};
 ghost use Rattle.tables.specs.RowMajor.{IsTable, table};
 ghost use Rattle.tables.specs.Vectors.{IsVector, vector};
-ghost use Rattle.compact.specs.Listing.{marked};
+ghost use Rattle.compact.specs.Listing.{IsMask, marked};
 ghost use Rattle.joins.specs.StageJoin.{knows, Factors, KnownSum, PlaceFilled, ColumnFilled, JoinDone};
 ghost use Rattle.joins.specs.Joins.{StageJoins, StagesJoin};
 use rows::Sum;
@@ -13,7 +12,7 @@ use tables::vector;
 
 // The stages that are known as stage c joins: the kept ones and those above c.
 fn is_known(c: usize, i: usize, kept: &[bool; 32]) -> bool
-    requires { ⌜ (i < 32) × (length (now kept) ≡ 32) ⌝ }
+    requires { ⌜ (i < 32) × IsMask (now kept) ⌝ }
     ensures { λ r. ⌜ r ≡ knows c (marked (now (kept .entry))) i ⌝ }
 {
     let own = kept[i];
@@ -30,7 +29,7 @@ fn factors(
     kept: &[bool; 32],
     w: &mut [f64; 32],
 ) -> bool
-    requires { ⌜ (n ≤ 32) × (c < 32) × IsTable (now t) × (length (now kept) ≡ 32) × IsVector (now w) ⌝ }
+    requires { ⌜ (n ≤ 32) × (c < 32) × IsTable (now t) × IsMask (now kept) × IsVector (now w) ⌝ }
     ensures { λ ok. ⌜ Factors n (knows c (marked (now (kept .entry)))) (λ l. table (now (t .entry)) l c) p (vector (now (w .entry))) ok (now (w .exit)) ⌝ }
 {
     let mut ok = true;
@@ -54,7 +53,7 @@ fn column_sum(
     w: &[f64; 32],
     x: &[f64; 1024],
 ) -> Sum
-    requires { ⌜ (n ≤ 32) × (i < 32) × (length (now kept) ≡ 32) × IsVector (now w) × IsTable (now x) ⌝ }
+    requires { ⌜ (n ≤ 32) × (i < 32) × IsMask (now kept) × IsVector (now w) × IsTable (now x) ⌝ }
     ensures { λ r. ⌜ KnownSum (knows c (marked (now (kept .entry)))) (table (now (x .entry)) i) (vector (now (w .entry))) n (r .value) (r .ok) ⌝ }
 {
     let mut sum = 0.0;
@@ -81,7 +80,7 @@ fn fill_place(
     w: &[f64; 32],
     x: &mut [f64; 1024],
 ) -> bool
-    requires { ⌜ (n ≤ 32) × (c < 32) × (i < 32) × (length (now kept) ≡ 32) × IsVector (now w) × IsTable (now x) ⌝ }
+    requires { ⌜ (n ≤ 32) × (c < 32) × (i < 32) × IsMask (now kept) × IsVector (now w) × IsTable (now x) ⌝ }
     ensures { λ ok. ⌜ PlaceFilled n (knows c (marked (now (kept .entry)))) c (vector (now (w .entry))) i ok (table (now (x .entry))) (now (x .exit)) ⌝ }
 {
     if is_known(c, i, kept) {
@@ -94,7 +93,7 @@ fn fill_place(
 }
 
 fn fill_column(n: usize, c: usize, kept: &[bool; 32], w: &[f64; 32], x: &mut [f64; 1024]) -> bool
-    requires { ⌜ (n ≤ 32) × (c < 32) × (length (now kept) ≡ 32) × IsVector (now w) × IsTable (now x) ⌝ }
+    requires { ⌜ (n ≤ 32) × (c < 32) × IsMask (now kept) × IsVector (now w) × IsTable (now x) ⌝ }
     ensures { λ ok. ⌜ ColumnFilled n (knows c (marked (now (kept .entry)))) c (vector (now (w .entry))) ok (table (now (x .entry))) (now (x .exit)) ⌝ }
 {
     let mut ok = true;
@@ -114,7 +113,7 @@ fn join(
     kept: &[bool; 32],
     x: &mut [f64; 1024],
 ) -> bool
-    requires { ⌜ (n ≤ 32) × (c < 32) × IsTable (now t) × IsVector (now a) × (length (now kept) ≡ 32) × IsTable (now x) ⌝ }
+    requires { ⌜ (n ≤ 32) × (c < 32) × IsTable (now t) × IsVector (now a) × IsMask (now kept) × IsTable (now x) ⌝ }
     ensures { λ ok. let t = table (now (t .entry)) in ⌜ JoinDone n (knows c (marked (now (kept .entry)))) c (λ l. t l c) (vector (now (a .entry)) c) ok (table (now (x .entry))) (now (x .exit)) ⌝ }
 {
     let p = vector::get(c, a);
@@ -137,7 +136,7 @@ fn join_stage(
     kept: &[bool; 32],
     x: &mut [f64; 1024],
 ) -> bool
-    requires { ⌜ (q < n) × (n ≤ 32) × IsTable (now t) × IsVector (now a) × (length (now kept) ≡ 32) × IsTable (now x) ⌝ }
+    requires { ⌜ (q < n) × (n ≤ 32) × IsTable (now t) × IsVector (now a) × IsMask (now kept) × IsTable (now x) ⌝ }
     ensures { λ ok. ⌜ StageJoins n (table (now (t .entry))) (vector (now (a .entry))) (marked (now (kept .entry))) q (table (now (x .entry))) ok (now (x .exit)) ⌝ }
 {
     let c = n - 1 - q;
@@ -155,7 +154,7 @@ pub fn join_stages(
     kept: &[bool; 32],
     x: &mut [f64; 1024],
 ) -> bool
-    requires { ⌜ (n ≤ 32) × IsTable (now t) × IsVector (now a) × (length (now kept) ≡ 32) × IsTable (now x) ⌝ }
+    requires { ⌜ (n ≤ 32) × IsTable (now t) × IsVector (now a) × IsMask (now kept) × IsTable (now x) ⌝ }
     ensures { λ ok. ⌜ StagesJoin n (table (now (t .entry))) (vector (now (a .entry))) (marked (now (kept .entry))) (table (now (x .entry))) n ok (now (x .exit)) ⌝ }
 {
     let mut ok = true;

@@ -2,10 +2,10 @@
 // (document 01, "Steps for margins").
 ghost use mathlib.Core.Path.{_≡_};
 ghost use Prim.Native.Nat.{suc, _-_, _≤_, _<_};
-ghost use lib.ListN.{length};
 ghost use Rattle.definitions.specs.Numbers.{0·0, sum};
 ghost use Rattle.tables.specs.RowMajor.{IsTable, table};
 ghost use Rattle.tables.specs.Vectors.{IsVector, vector, VectorHolds};
+ghost use Rattle.compact.specs.Listing.{IsMask};
 ghost use Rattle.ratios.specs.Ratios.{RatiosBefore, RatiosTested, StageTested};
 use tables::row;
 use tables::vector;
@@ -60,7 +60,7 @@ pub fn fill(
     k: &mut [f64; 32],
     kept: &mut [bool; 32],
 ) -> bool
-    requires { ⌜ (n ≤ 32) × IsTable (now t) × IsVector (now d) × IsVector (now a) × VectorHolds (now k) (λ _. 0·0) × (length (now kept) ≡ 32) ⌝ }
+    requires { ⌜ (n ≤ 32) × IsTable (now t) × IsVector (now d) × IsVector (now a) × VectorHolds (now k) (λ _. 0·0) × IsMask (now kept) ⌝ }
     ensures { λ ok. ⌜ RatiosTested n (table (now (t .entry))) (vector (now (d .entry))) n ok (now (a .exit)) (now (k .exit)) (now (kept .exit)) ⌝ }
 {
     let mut ok = true;

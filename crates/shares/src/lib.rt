@@ -1,15 +1,13 @@
 // The shares d_j / a_j of the new leaving rates (document 01, "Steps for margins").
-ghost use mathlib.Core.Path.{_≡_};
 ghost use Prim.Native.Nat.{_≤_};
-ghost use lib.ListN.{length};
 ghost use Rattle.tables.specs.Vectors.{IsVector, vector};
-ghost use Rattle.compact.specs.Listing.{marked};
+ghost use Rattle.compact.specs.Listing.{IsMask, marked};
 ghost use Rattle.shares.specs.Shares.{Shares};
 use tables::vector;
 
 // The shares d_j / a_j of the stages; true if those above a kept stage are in range.
 pub fn shares(n: usize, d: &[f64; 32], a: &[f64; 32], kept: &[bool; 32], w: &mut [f64; 32]) -> bool
-    requires { ⌜ (n ≤ 32) × IsVector (now d) × IsVector (now a) × (length (now kept) ≡ 32) × IsVector (now w) ⌝ }
+    requires { ⌜ (n ≤ 32) × IsVector (now d) × IsVector (now a) × IsMask (now kept) × IsVector (now w) ⌝ }
     ensures { λ ok. ⌜ Shares (marked (now (kept .entry))) (vector (now (d .entry))) (vector (now (a .entry))) n ok (now (w .exit)) ⌝ }
 {
     let mut ok = true;
