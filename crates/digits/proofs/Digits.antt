@@ -12,6 +12,10 @@ use lib.Dec.{ltb}
 use lib.ListN.{length, length-append}
 use Rattle.definitions.specs.Dwell.{digits, decimal, hexadecimal}
 
+-- A decimal number and the byte that ends its field.
+abbrev pub field : ℕ → ℕ → List ℕ
+field a end = decimal a ++ (end ∷ [])
+
 -- One digit where a < 10; elsewhere the digits of a / 10 and the last digit.
 digits-one : (m a : ℕ) → a < 10 → digits (suc m) a ≡ (48 + a % 10) ∷ []
 unfolding digits

@@ -1,8 +1,6 @@
 // The questions of a sheet file (document 01): 11 to 14 record by record, then 4.
 ghost use mathlib.Core.Path.{_≡_};
 ghost use Prim.Native.Nat.{_+_, _≤_};
-ghost use mathlib.Core.Bool.{_&&_, _||_};
-ghost use lib.Dec.{leb, eqb};
 ghost use lib.ListN.{length, drop};
 ghost use Rattle.definitions.specs.File.{recordLength, goodHead, goodRow, fileAnswer};
 ghost use Rattle.definitions.specs.Services as services;
@@ -10,13 +8,6 @@ ghost use Rattle.answers.specs.Answers.{headGiven};
 use answers::Loaded;
 use records::field_at;
 use records::is_whole;
-
-// Whether a head may hold this reading and this number of stages.
-fn may_hold(reading: usize, n: usize) -> bool
-    ensures { λ r. ⌜ r ≡ ((eqb reading 1 || eqb reading 2) && leb 1 n && leb n 32) ⌝ }
-{
-    ((reading == 1) | (reading == 2)) & (1 <= n) & (n <= 32)
-}
 
 // Question 12, of a head that the file holds whole.
 fn is_good_head(bytes: &[u8]) -> bool
@@ -29,7 +20,9 @@ fn is_good_head(bytes: &[u8]) -> bool
     if field_at(bytes, 0, 4) != 4 {
         return false;
     }
-    may_hold(field_at(bytes, 6, 2), field_at(bytes, 8, 2))
+    let reading = field_at(bytes, 6, 2);
+    let n = field_at(bytes, 8, 2);
+    ((reading == 1) | (reading == 2)) & (1 <= n) & (n <= 32)
 }
 
 // Question 13, of the row that starts at `at` and that the file holds whole.

@@ -7,16 +7,9 @@ use native.Mathlib.Numerals.{add-one}
 use native.Mathlib.Omega.{arith}
 use lib.Ieee.{Float, binary64, toBits}
 use Rattle.digits.specs.Pasted.{Written}
+use Rattle.digits.proofs.Digits.{field}
 use Rattle.digits.proofs.Pasting.{written-nothing}
-use Rattle.definitions.specs.Dwell.{text, decimal, hexadecimal, refusedLine, secondsLine, entryLine, rowLines, tableLines}
-
--- A decimal number and the byte that ends its field.
-abbrev pub field : ℕ → ℕ → List ℕ
-field a end = decimal a ++ (end ∷ [])
-
-pub refused-pieces : (number row column : ℕ) → refusedLine number row column ≡ text "refused " ++ field number 32 ++ field row 32 ++ field column 10
-unfolding refusedLine text
-refused-pieces number row column = simp append-assoc
+use Rattle.definitions.specs.Dwell.{text, hexadecimal, secondsLine, entryLine, rowLines, tableLines}
 
 pub seconds-pieces : (n allowed : ℕ) → secondsLine n allowed ≡ text "seconds " ++ field n 32 ++ field allowed 10
 unfolding secondsLine text

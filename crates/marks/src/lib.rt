@@ -1,7 +1,6 @@
 // Marked stages beside their count, for question 9 of document 01: the stages with an exit, and those that
 // move to a stage.
 ghost use Prim.Native.Nat.{_<_};
-ghost use mathlib.Core.Path.{_≡_};
 ghost use mathlib.Core.Bool.{_||_};
 ghost use Rattle.definitions.specs.Questions.{moves, leaves};
 ghost use Rattle.shape.specs.Square.{Square};
@@ -11,14 +10,6 @@ use shape::number_at;
 pub struct Marks {
     pub marked: [bool; 32],
     pub count: usize,
-}
-
-// Whether there is a move from stage i to stage j: the size of a move is 0.0 minus its number.
-fn moves_from_to(n: usize, i: usize, j: usize, sheet: &[f64]) -> bool
-    requires { ⌜ Square n (now sheet) × (i < n) × (j < n) ⌝ }
-    ensures { λ r. ⌜ r ≡ moves n (now (sheet .entry)) i j ⌝ }
-{
-    (i != j) & (0.0 - number_at(n, i, j, sheet) != 0.0)
 }
 
 // The stages with an exit: their leaving rate is positive, and the sum makes either zero plus zero.
@@ -39,14 +30,14 @@ pub fn exits(n: usize, sheet: &[f64]) -> Marks
     next
 }
 
-// The marked stages, and those with a move to stage j.
+// The marked stages, and those with a move to stage j: the size of a move is 0.0 minus its number.
 pub fn mark_movers(n: usize, j: usize, sheet: &[f64], marks: Marks) -> Marks
     requires { ⌜ Square n (now sheet) × (j < n) × Counted n marks ⌝ }
     ensures { λ r. ⌜ Marked (λ i. isMarked marks i || moves n (now (sheet .entry)) i j) n r ⌝ }
 {
     let mut next = marks;
     for i in 0..n {
-        if !next.marked[i] && moves_from_to(n, i, j, sheet) {
+        if !next.marked[i] && ((i != j) & (0.0 - number_at(n, i, j, sheet) != 0.0)) {
             next.marked[i] = true;
             next.count += 1;
         }

@@ -35,7 +35,7 @@ pub fn answer(bytes: &[u8], out: &mut [u8]) -> usize
             number,
             row,
             column,
-        } => text::refused_text(number, row, column, out),
+        } => refusal::refused_text(number, row, column, out),
     }
 }
 

@@ -5,16 +5,10 @@ use native.Mathlib.Omega.{arith}
 use mathlib.Core.List.{List, _++_}
 use lib.ListN.{length, length-append}
 use lib.Ieee.{Float, binary64, toBits}
-use Rattle.definitions.specs.Dwell.{text, refusedLine, secondsLine, entryLine, rowLines, tableLines}
+use Rattle.definitions.specs.Dwell.{text, secondsLine, entryLine, rowLines, tableLines}
 use Rattle.digits.specs.Pasted.{Room}
 use Rattle.digits.proofs.Digits.{decimal-at-most, length-hexadecimal}
-use Rattle.lines.proofs.Lines.{refused-pieces, seconds-pieces, entry-pieces, row-none, row-grows, table-none, table-grows}
-
-pub length-refused : (number row column : ℕ) → number < 10 ^ 20 → row < 10 ^ 20 → column < 10 ^ 20 → length (refusedLine number row column) ≤ 71
-unfolding text
-length-refused number row column a b c =
-    rw (refused-pieces number row column) (simp length-append
-    (omega (arith, decimal-at-most 19 number a, decimal-at-most 19 row b, decimal-at-most 19 column c)))
+use Rattle.lines.proofs.Lines.{seconds-pieces, entry-pieces, row-none, row-grows, table-none, table-grows}
 
 pub length-seconds : (n allowed : ℕ) → n < 10 ^ 20 → allowed < 10 ^ 20 → length (secondsLine n allowed) ≤ 50
 unfolding text
@@ -40,10 +34,6 @@ module _ (x : ℕ → ℕ → Float) where
 -- A whole text, and room for it in a buffer of 32,768 bytes.
 pub length-whole : (n allowed : ℕ) (x : ℕ → ℕ → Float) → n ≤ 32 → allowed < 10 ^ 20 → length (secondsLine n allowed ++ tableLines x n n) ≤ 32768
 length-whole n allowed x a b = rw length-append (omega (arith, length-seconds n allowed (omega arith) b, length-table x n n a a))
-
-pub refused-room : (number row column : ℕ) (out : List ℕ) → number < 10 ^ 20 → row < 10 ^ 20 → column < 10 ^ 20 → 32768 ≤ length out
-    → Room (refusedLine number row column) 0 out
-refused-room number row column out a b c h = record { within = omega (arith, length-refused number row column a b c) }
 
 pub seconds-room : (n allowed : ℕ) (x : ℕ → ℕ → Float) (out : List ℕ) → n ≤ 32 → allowed < 10 ^ 20 → 32768 ≤ length out
     → Room (secondsLine n allowed ++ tableLines x n n) 0 out

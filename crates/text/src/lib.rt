@@ -4,22 +4,11 @@ ghost use mathlib.Core.List.{_++_};
 ghost use Prim.Native.Nat.{_*_, _≤_};
 ghost use lib.ListN.{length};
 ghost use Rattle.definitions.specs.Sheet.{place};
-ghost use Rattle.definitions.specs.Dwell.{refusedLine, secondsLine, tableLines};
+ghost use Rattle.definitions.specs.Dwell.{secondsLine, tableLines};
 ghost use Rattle.answers.specs.Answers.{tableGiven};
 ghost use Rattle.digits.specs.Pasted.{AtStart};
 ghost use Rattle.text.specs.AnswerText.{answerText};
 use answers::Table;
-
-// The line of a refusal, at the start of `out`; later bytes stay as they were. Returns its length.
-pub fn refused_text(number: usize, row: usize, column: usize, out: &mut [u8]) -> usize
-    requires { ⌜ 32768 ≤ length (now out) ⌝ }
-    ensures { λ r. ⌜ AtStart (refusedLine number row column) (now (out .entry)) (now (out .exit)) r ⌝ }
-{
-    let after_word = digits::put_bytes(b"refused ", 0, out);
-    let after_number = digits::put_field(number, b' ', after_word, out);
-    let after_row = digits::put_field(row, b' ', after_number, out);
-    digits::put_field(column, b'\n', after_row, out)
-}
 
 // The lines of an accepted sheet, at the start of `out`; later bytes stay as they were. `answer`
 // holds the table row by row, and may be longer. Returns the length of the lines.
@@ -44,6 +33,6 @@ pub fn answer_text(told: Table, n: usize, answer: &[f64], out: &mut [u8]) -> usi
             number,
             row,
             column,
-        } => refused_text(number, row, column, out),
+        } => refusal::refused_text(number, row, column, out),
     }
 }

@@ -1,7 +1,7 @@
 -- `file_questions::is_good_head` meets its contract: at each `return` the numbers read so far decide question 12. Assumes nothing.
 use borrow.Author.Needs.{needs}
 use native.Mathlib.Omega.{arith}
-use mathlib.Core.Path.{_≡_, _∙_}
+use mathlib.Core.Path.{_≡_}
 use lib.ListN.{drop}
 use Rattle.definitions.specs.File.{little, recordLength}
 use Rattle.file_questions.proofs.HeadAndRows.{head-kind, head-length, head-holds}
@@ -28,10 +28,10 @@ field-at-requires-4 c κs = omega arith
 returns-3 : tie.Need-returns-3
 unfolding recordLength
 returns-3 c =
-    let bytes = c .before .before .before .before .before .before .before .before .args .bytes .now in
+    let bytes = c .before .before .before .before .before .before .before .args .bytes .now in
     let kind : little 2 (drop 4 bytes) ≡ 1 = omega arith in
     let size : recordLength bytes ≡ 4 = omega arith in
-    c .may-hold .ensures ∙ head-holds bytes (c .before .before .field-at3 .result) (c .before .field-at4 .result) kind size (c .before .before .field-at3 .ensures) (c .before .field-at4 .ensures)
+    head-holds bytes (c .before .field-at3 .result) (c .field-at4 .result) kind size (c .before .field-at3 .ensures) (c .field-at4 .ensures)
 
 pub is-good-head-spec : {M : Type 1} → statement M
 is-good-head-spec =
@@ -43,5 +43,4 @@ is-good-head-spec =
     returns-2
     field-at-requires-3
     field-at-requires-4
-    (λ c κs. search needs)
     returns-3)

@@ -5,7 +5,8 @@ use Prim.Native.Nat.{ℕ}
 use Rattle.definitions.specs.Dwell.{hexadecimal}
 use Rattle.digits.specs.Pasted.{Room}
 use Rattle.digits.proofs.Pasting.{room-1, room-2, room-3, room-4, written-4}
-use Rattle.lines.proofs.Lines.{field, entry-pieces}
+use Rattle.digits.proofs.Digits.{field}
+use Rattle.lines.proofs.Lines.{entry-pieces}
 use Rattle.lines.proofs.put_entry.Statement.{statement}
 use Rattle.lines.proofs.put_entry.Tie as tie
 

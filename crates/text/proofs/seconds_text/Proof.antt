@@ -7,7 +7,8 @@ use Rattle.definitions.specs.Sheet.{place}
 use Rattle.definitions.specs.Dwell.{text, tableLines}
 use Rattle.digits.specs.Pasted.{Room}
 use Rattle.digits.proofs.Pasting.{room-2, room-3, room-4, written-4, written-at-start}
-use Rattle.lines.proofs.Lines.{field, seconds-pieces}
+use Rattle.digits.proofs.Digits.{field}
+use Rattle.lines.proofs.Lines.{seconds-pieces}
 use Rattle.text.proofs.TextLengths.{seconds-room}
 use Rattle.text.proofs.seconds_text.Statement.{statement}
 use Rattle.text.proofs.seconds_text.Tie as tie

@@ -1,4 +1,4 @@
--- `text::refused_text` meets its contract: four writers in a row write the pieces of the line, for which the buffer has room. Assumes nothing.
+-- `refusal::refused_text` meets its contract: four writers in a row write the pieces of the line, for which the buffer has room. Assumes nothing.
 use borrow.Author.Needs.{needs}
 use mathlib.Core.List.{List, _++_}
 use Prim.Native.Nat.{ℕ}
@@ -6,10 +6,10 @@ use native.Mathlib.Omega.{arith}
 use Rattle.definitions.specs.Dwell.{text}
 use Rattle.digits.specs.Pasted.{Room}
 use Rattle.digits.proofs.Pasting.{room-2, room-3, room-4, written-4, written-at-start}
-use Rattle.lines.proofs.Lines.{field, refused-pieces}
-use Rattle.text.proofs.TextLengths.{refused-room}
-use Rattle.text.proofs.refused_text.Statement.{statement}
-use Rattle.text.proofs.refused_text.Tie as tie
+use Rattle.digits.proofs.Digits.{field}
+use Rattle.refusal.proofs.RefusedLine.{refused-pieces, refused-room}
+use Rattle.refusal.proofs.refused_text.Statement.{statement}
+use Rattle.refusal.proofs.refused_text.Tie as tie
 
 -- The pieces after the word, and room for all.
 abbrev number : tie.Start → List ℕ
