@@ -38,10 +38,10 @@ add-next c = omega (arith, marked-few (c .before .before .before .loop .inv .1))
 loop-again : tie.Need-loop-again Inv-loop μ-loop
 loop-again c =
     let at = c .before .before .before in
-    let l = c .before .before .loop-test .taken in
-    let exit = exit-is _ _ _ l (c .before .number-at .ensures) in (
+    let l = c .before .before .loop-test .taken in (
       omega arith,
-      ⊎-elim
+      let exit = exit-is _ _ _ l (c .before .number-at .ensures) in
+          ⊎-elim
           (λ w. mark-stage _ _ (at .loop .inv .1) l (omega arith) (at-stage _ _ (at .loop .inv .1) l) (sym exit ∙ w .0 .taken) (ap (λ m. m .marked) (w .1)) (ap (λ m. m .count) (w .1)))
           (λ w. rw (w .1) (leave-stage _ _ (at .loop .inv .1) l (λ t. absurd (contrary _ t (sym exit ∙ w .0 .left)))))
           (c .if1 .came),
