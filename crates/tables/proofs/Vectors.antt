@@ -14,7 +14,7 @@ use Rattle.tables.specs.Operators.{replace, between}
 use Rattle.exact.proofs.Cases.{by-equal, by-order, by-bool}
 use Rattle.tables.proofs.RowMajor.{any-default}
 use Rattle.tables.proofs.Operators.{replace-same, replace-other, between-none, between-step}
-use Rattle.tables.specs.RowMajor.{tableOf, ZeroTable}
+use Rattle.tables.specs.RowMajor.{tableOf, HoldsIn}
 use Rattle.tables.specs.Vectors.{vector, VectorIn}
 
 module _ {limit i : ℕ} (xs : List Float) (long : length xs ≡ limit) (hi : i < limit) where
@@ -51,9 +51,9 @@ zero-table limit width m {x} e =
     (λ t. rw t (ap (λ (v : ℕ → Float). v (i * width + j)) (zero-vector m e)))
     (λ t. rw t)))
 
--- A working table before anything is put into it.
-pub new-table : {x : Float} → x ≡ 0·0 → ZeroTable (replicate 1024 x)
-new-table {x} e = record { long = length-replicate 1024 x; is = zero-table 32 32 1024 e }
+-- A table of zeros.
+pub new-table : {limit width : ℕ} {x : Float} → x ≡ 0·0 → HoldsIn limit width (replicate (limit * width) x) (λ _ _. 0·0)
+new-table {limit} {width} {x} e = record { long = length-replicate (limit * width) x; is = zero-table limit width (limit * width) e }
 
 -- Along a vector: the places before i become g.
 module _ {limit : ℕ} (g : ℕ → Float) where
