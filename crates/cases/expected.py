@@ -256,6 +256,14 @@ def entry_case(reading: int, n: int, sheet: list[float], i: int, j: int) -> Case
                 line(answer, [], [] if isinstance(answer, Refused) else [bits_of(answer.value)]))
 
 
+def entries_case(reading: int, sheet: list[float]) -> Case:
+    """Every entry of a sheet of 32 stages, each by itself: those of its table."""
+    answer = table(reading, LIMIT, sheet, LIMIT * LIMIT)
+    assert isinstance(answer, Table)
+    return Case(packed("a", [reading, LIMIT, *(bits_of(x) for x in sheet)]),
+                "".join(line(answer, [], [bits_of(x)]) for x in answer.entries))
+
+
 def file_case(data: bytes, room: int) -> Case:
     """Both readers have the same answer, and areas of their own."""
     answer = load(data, room)
@@ -277,11 +285,10 @@ def every_entry(reading: int, sheet: list[float]) -> list[Case]:
 
 
 def large(reading: int) -> list[Case]:
-    """A sheet of 32 stages, and some of its entries."""
+    """A sheet of 32 stages, and every one of its entries."""
     rates = [-1.0, 0.0, -0.1, -3.0, -0.0, -1.0e-7, -1.0e-7]
     sheet = [1.0e-6 if i == j else rates[(5 * i + 3 * j) % 7] for i in range(LIMIT) for j in range(LIMIT)]
-    return [table_case(reading, LIMIT, sheet, 1030)] + [entry_case(reading, LIMIT, sheet, i, (7 * i) % LIMIT + 1)
-                                                        for i in (1, 2, 9, 17, 31, 32)]
+    return [table_case(reading, LIMIT, sheet, 1030), entries_case(reading, sheet)]
 
 
 def calls() -> list[Case]:

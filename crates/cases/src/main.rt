@@ -114,16 +114,8 @@ fn run_table(case: &[u8]) {
     );
 }
 
-// e: reading, n, the two stages, and the sheet's numbers.
-fn try_entry(case: &[u8], sheet: &[f64]) {
-    let answer = planner::one_entry(
-        count(case, 0),
-        count(case, 1),
-        sheet,
-        count(case, 2),
-        count(case, 3),
-    );
-    let told = out_places::entry(answer);
+fn try_entry(reading: usize, n: usize, sheet: &[f64], i: usize, j: usize) {
+    let told = out_places::entry(planner::one_entry(reading, n, sheet, i, j));
     write_refusal(told.number, told.row, told.column);
     if told.accepted {
         write_word(rounding::to_word(told.seconds));
@@ -131,10 +123,32 @@ fn try_entry(case: &[u8], sheet: &[f64]) {
     write_text(b"\n");
 }
 
+// e: reading, n, the two stages, and the sheet's numbers.
 fn run_entry(case: &[u8]) {
     let mut sheet = [0.0; PLACES];
     let given = numbers(case, 4, &mut sheet);
-    try_entry(case, &sheet[..given]);
+    try_entry(
+        count(case, 0),
+        count(case, 1),
+        &sheet[..given],
+        count(case, 2),
+        count(case, 3),
+    );
+}
+
+// a: reading, n and the sheet's numbers; all 32 × 32 entries, each by itself.
+fn run_entries(case: &[u8]) {
+    let mut sheet = [0.0; PLACES];
+    let given = numbers(case, 2, &mut sheet);
+    for k in 0..1024 {
+        try_entry(
+            count(case, 0),
+            count(case, 1),
+            &sheet[..given],
+            k / 32 + 1,
+            k % 32 + 1,
+        );
+    }
 }
 
 // f: the length of the area, and a file, which both readers read.
@@ -181,6 +195,7 @@ fn run_case(case: &[u8]) {
     match call {
         b't' => run_table(case),
         b'e' => run_entry(case),
+        b'a' => run_entries(case),
         b'f' => run_file(case),
         _ => run_dwell(case),
     }

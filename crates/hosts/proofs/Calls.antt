@@ -17,7 +17,7 @@ use Rattle.answers.specs.Answers.{tableGiven, entryGiven}
 use Rattle.planner.specs.Promises.{TableDone, EntryDone}
 use Rattle.out_places.specs.OutPlaces.{Refusal, ValueOut, HeadOut}
 use Rattle.report.specs.Reported.{Reported}
-use Rattle.hosts.specs.HostCalls.{TableCall, EntryCall, FileCall, ReportCall, reportText}
+use Rattle.hosts.specs.HostCalls.{TableCall, EntryCall, HeadCall, FileCall, ReportCall, reportText}
 
 module _ {number row column : ℕ} {accepted : Bool} where
   pub table-call : {reading n : ℕ} {sheet before after : List Float} {r : Table} {allowed : ℕ} → TableDone reading n sheet before after r
@@ -41,18 +41,14 @@ module _ {number row column : ℕ} {accepted : Bool} where
         accurate = done .accurate;
       }
 
-  pub file-call : {A : Type 0} (filledArea : List ℕ → List A → List A) (bytes : List ℕ) (before : List A) {after : List A} {a : Answer Head} {reading n : ℕ}
-      → a ≡ fileAnswer bytes (length before) → after ≡ filledArea bytes before
-      → Refusal a number row column × HeadOut a accepted reading n
-      → (was was' : ℕ) {is is' : ℕ} → is ≡ cond accepted reading was → is' ≡ cond accepted n was'
-      → FileCall filledArea bytes before after was is was' is' row column number
-  file-call filledArea bytes before answered area out was was' e e' =
-      record {
-        told = rw answered at (out .0);
-        reads = e ∙ rw answered at (out .1 .reads was);
-        stages = e' ∙ rw answered at (out .1 .stages was');
-        area = area;
-      }
+  pub head-call : {a : Answer Head} {reading n : ℕ} → Refusal a number row column × HeadOut a accepted reading n
+      → (was was' : ℕ) {is is' : ℕ} → is ≡ cond accepted reading was → is' ≡ cond accepted n was' → HeadCall a was is was' is' row column number
+  head-call out was was' e e' = record { told = out .0; reads = e ∙ out .1 .reads was; stages = e' ∙ out .1 .stages was' }
+
+pub file-call : {A : Type 0} (filledArea : List ℕ → List A → List A) (bytes : List ℕ) (before : List A) {after : List A} {a : Answer Head}
+    {reading reading' n n' row column number : ℕ} → a ≡ fileAnswer bytes (length before) → after ≡ filledArea bytes before
+    → HeadCall a reading reading' n n' row column number → FileCall filledArea bytes before after reading reading' n n' row column number
+file-call filledArea bytes before answered area head = record { head = rw answered at head; area = area }
 
 module _ (bytes before : List ℕ) where
   pub report-short : length before < 32768 → ReportCall bytes before before 0

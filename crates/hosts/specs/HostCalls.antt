@@ -11,8 +11,8 @@ use Rattle.definitions.specs.Table.{entry}
 use Rattle.definitions.specs.Matrix.{matrix, everyStage}
 use Rattle.definitions.specs.Questions.{pass, tableQuestions, entryQuestions}
 use Rattle.definitions.specs.Accuracy.{Accurate}
-use Rattle.definitions.specs.Services.{tableAnswer, tableArea, entryAnswer}
-use Rattle.definitions.specs.File.{fileAnswer}
+use Rattle.definitions.specs.Services.{Answer, tableAnswer, tableArea, entryAnswer}
+use Rattle.definitions.specs.File.{Head, fileAnswer}
 use Rattle.definitions.specs.Dwell.{fileText}
 use Rattle.digits.specs.Pasted.{AtStart}
 use Rattle.out_places.specs.OutPlaces.{Refusal, handed}
@@ -33,13 +33,16 @@ pub record EntryCall (reading n : ℕ) (sheet : List Float) (i j : ℕ) (seconds
   pub accurate : entryQuestions reading n sheet i j ≡ pass
       → Accurate n everyStage (allowance reading n) (matrix reading n sheet) (entry reading n sheet)
 
--- File reading, on numbers (`fileNumberArea`) or on words (`fileWordArea`): the area and the places for the reading and the
--- number of stages before and after, and the same.
+-- What file reading hands over and tells: the places for the reading and the number of stages before and after, and the same.
+pub record HeadCall (answer : Answer Head) (reading reading' n n' row column returned : ℕ) : Type 0 where
+  pub told : Refusal answer returned row column
+  pub reads : reading' ≡ handed (λ head. head .reading) answer reading
+  pub stages : n' ≡ handed (λ head. head .n) answer n
+
+-- File reading, on numbers (`fileNumberArea`) or on words (`fileWordArea`): that, and the area before and after.
 pub record FileCall {A : Type 0} (filledArea : List ℕ → List A → List A) (bytes : List ℕ) (before after : List A)
     (reading reading' n n' row column returned : ℕ) : Type 0 where
-  pub told : Refusal (fileAnswer bytes (length before)) returned row column
-  pub reads : reading' ≡ handed (λ head. head .reading) (fileAnswer bytes (length before)) reading
-  pub stages : n' ≡ handed (λ head. head .n) (fileAnswer bytes (length before)) n
+  pub head : HeadCall (fileAnswer bytes (length before)) reading reading' n n' row column returned
   pub area : after ≡ filledArea bytes before
 
 -- The text of a report for an area of so many bytes: what dwell prints for the file, and nothing where the area is too short.

@@ -3,7 +3,9 @@
 // places that the caller lends; a refused call leaves these as they were. No call has a `requires`.
 // `include/yulanbowls.h` declares them.
 ghost use Rattle.definitions.specs.File.{fileNumberArea, fileWordArea};
-ghost use Rattle.hosts.specs.HostCalls.{TableCall, EntryCall, FileCall, ReportCall};
+ghost use Rattle.answers.specs.Answers.{headGiven};
+ghost use Rattle.hosts.specs.HostCalls.{TableCall, EntryCall, HeadCall, FileCall, ReportCall};
+use answers::Loaded;
 
 // The whole table in the first n × n places of the answer area, and its allowance.
 #[no_mangle]
@@ -50,6 +52,26 @@ pub extern "C" fn yulanbowls_entry(
     entry.number
 }
 
+// What file reading answers, in the out places of a call.
+fn hand_over(
+    loaded: Loaded,
+    reading: &mut usize,
+    n: &mut usize,
+    row: &mut usize,
+    column: &mut usize,
+) -> usize
+    ensures { λ r. ⌜ HeadCall (headGiven loaded) (now (reading .entry)) (now (reading .exit)) (now (n .entry)) (now (n .exit)) (now (row .exit)) (now (column .exit)) r ⌝ }
+{
+    let head = out_places::head(loaded);
+    *row = head.row;
+    *column = head.column;
+    if head.accepted {
+        *reading = head.reading;
+        *n = head.n;
+    }
+    head.number
+}
+
 // A sheet file's numbers in the first n × n places of the area, each from its bits.
 #[no_mangle]
 pub extern "C" fn yulanbowls_read_numbers(
@@ -62,14 +84,7 @@ pub extern "C" fn yulanbowls_read_numbers(
 ) -> usize
     ensures { λ r. ⌜ FileCall fileNumberArea (now (bytes .entry)) (now (area .entry)) (now (area .exit)) (now (reading .entry)) (now (reading .exit)) (now (n .entry)) (now (n .exit)) (now (row .exit)) (now (column .exit)) r ⌝ }
 {
-    let numbers = out_places::head(file::read_numbers(bytes, area));
-    *row = numbers.row;
-    *column = numbers.column;
-    if numbers.accepted {
-        *reading = numbers.reading;
-        *n = numbers.n;
-    }
-    numbers.number
+    hand_over(file::read_numbers(bytes, area), reading, n, row, column)
 }
 
 // A sheet file's 64-bit words in the first n × n places of the area; every bit is kept.
@@ -84,14 +99,7 @@ pub extern "C" fn yulanbowls_read_words(
 ) -> usize
     ensures { λ r. ⌜ FileCall fileWordArea (now (bytes .entry)) (now (area .entry)) (now (area .exit)) (now (reading .entry)) (now (reading .exit)) (now (n .entry)) (now (n .exit)) (now (row .exit)) (now (column .exit)) r ⌝ }
 {
-    let words = out_places::head(file::read_words(bytes, area));
-    *row = words.row;
-    *column = words.column;
-    if words.accepted {
-        *reading = words.reading;
-        *n = words.n;
-    }
-    words.number
+    hand_over(file::read_words(bytes, area), reading, n, row, column)
 }
 
 // The text that dwell prints for a sheet file, at the start of the area; returns its length. An area

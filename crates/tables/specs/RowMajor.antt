@@ -27,6 +27,7 @@ table xs = tableOf 32 32 xs
 abbrev pub Holds : List Float → (ℕ → ℕ → Float) → Type 0
 Holds xs f = HoldsIn 32 32 xs f
 
+-- A working table of zeros.
 abbrev pub ZeroTable : List Float → Type 0
 ZeroTable xs = Holds xs (λ _ _. 0·0)
 
