@@ -4,7 +4,7 @@ ghost use mathlib.Core.Bool.{cond};
 ghost use Prim.Native.Nat.{_+_, _<_};
 ghost use lib.Dec.{ltb};
 ghost use Rattle.definitions.specs.Dwell.{hexadecimal};
-ghost use Rattle.digits.specs.Pasted.{Room, Written};
+ghost use Rattle.buffer.specs.Pasted.{Room, Written};
 
 fn hexadecimal_digit(value: u8) -> u8
     requires { ⌜ value < 16 ⌝ }

@@ -14,7 +14,7 @@ use Rattle.definitions.specs.Accuracy.{Accurate}
 use Rattle.definitions.specs.Services.{Answer, tableAnswer, tableArea, entryAnswer}
 use Rattle.definitions.specs.File.{Head, fileAnswer}
 use Rattle.definitions.specs.Dwell.{fileText}
-use Rattle.digits.specs.Pasted.{AtStart}
+use Rattle.buffer.specs.Pasted.{AtStart}
 use Rattle.out_places.specs.OutPlaces.{Refusal, handed}
 
 -- The whole table: the answer area and the place for the allowance before and after, the places for the row and the column

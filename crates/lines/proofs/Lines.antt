@@ -6,9 +6,9 @@ use native.Mathlib.Nat.{suc-mul, mul-le-mul-right}
 use native.Mathlib.Numerals.{add-one}
 use native.Mathlib.Omega.{arith}
 use lib.Ieee.{Float, binary64, toBits}
-use Rattle.digits.specs.Pasted.{Written}
+use Rattle.buffer.specs.Pasted.{Written}
 use Rattle.digits.proofs.Digits.{field}
-use Rattle.digits.proofs.Pasting.{written-nothing}
+use Rattle.buffer.proofs.Pasting.{written-nothing}
 use Rattle.definitions.specs.Dwell.{text, hexadecimal, secondsLine, entryLine, rowLines, tableLines}
 
 pub seconds-pieces : (n allowed : ℕ) → secondsLine n allowed ≡ text "seconds " ++ field n 32 ++ field allowed 10

@@ -3,7 +3,7 @@ ghost use Prim.Native.Nat.{_*_, _≤_, _<_};
 ghost use lib.ListN.{length};
 ghost use Rattle.definitions.specs.Sheet.{place};
 ghost use Rattle.definitions.specs.Dwell.{entryLine, rowLines, tableLines};
-ghost use Rattle.digits.specs.Pasted.{Room, Written};
+ghost use Rattle.buffer.specs.Pasted.{Room, Written};
 
 // Row and column are numbered from 1 here.
 fn put_entry(row: usize, column: usize, x: f64, at: usize, out: &mut [u8]) -> usize
@@ -14,7 +14,7 @@ fn put_entry(row: usize, column: usize, x: f64, at: usize, out: &mut [u8]) -> us
     let after_row = digits::put_field(row, b' ', at, out);
     let after_column = digits::put_field(column, b' ', after_row, out);
     let after_bits = hexadecimal::put_hexadecimal(word, after_column, out);
-    digits::put_byte(b'\n', after_bits, out)
+    buffer::put_byte(b'\n', after_bits, out)
 }
 
 // The lines of row i of the n × n numbers in `answer`, i from 0.

@@ -5,7 +5,7 @@ use Prim.Native.Nat.{ℕ, _^_, _≤_, _<_}
 use native.Mathlib.Omega.{arith}
 use lib.ListN.{length, length-append}
 use Rattle.definitions.specs.Dwell.{text, refusedLine}
-use Rattle.digits.specs.Pasted.{Room}
+use Rattle.buffer.specs.Pasted.{Room}
 use Rattle.digits.proofs.Digits.{field, decimal-at-most}
 
 pub refused-pieces : (number row column : ℕ) → refusedLine number row column ≡ text "refused " ++ field number 32 ++ field row 32 ++ field column 10

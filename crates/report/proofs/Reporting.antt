@@ -16,8 +16,8 @@ use Rattle.definitions.specs.Questions.{Asked, pass, refuse}
 use Rattle.definitions.specs.Services.{given, answer, tableAnswer}
 use Rattle.definitions.specs.File.{fileQuestions, fileAnswer, fileNumbers, fileNumberArea, longestFile}
 use Rattle.definitions.specs.Dwell.{refusedLine, tableText, fileText, dwellText}
-use Rattle.digits.specs.Pasted.{AtStart}
-use Rattle.digits.proofs.Pasting.{count-within}
+use Rattle.buffer.specs.Pasted.{AtStart}
+use Rattle.buffer.proofs.Pasting.{count-within}
 use Rattle.text.specs.AnswerText.{answerText}
 use Rattle.text.proofs.Answer.{text-of-answer}
 use Rattle.answers.specs.declared.Loaded.{Loaded}

@@ -3,7 +3,7 @@ use mathlib.Core.Path.{_≡_}
 use Prim.Native.Nat.{ℕ, _≤_}
 use mathlib.Core.List.{List}
 use lib.ListN.{length, take}
-use Rattle.digits.specs.Pasted.{AtStart}
+use Rattle.buffer.specs.Pasted.{AtStart}
 
 -- The last two follow from the first; with them a caller lends the text alone.
 pub record Reported (text before after : List ℕ) (count : ℕ) : Type 0 where

@@ -4,7 +4,7 @@ ghost use lib.ListN.{length};
 ghost use Rattle.definitions.specs.Services.{tableAnswer};
 ghost use Rattle.definitions.specs.File.{fileAnswer};
 ghost use Rattle.definitions.specs.Dwell.{tableText, fileText, dwellText};
-ghost use Rattle.digits.specs.Pasted.{AtStart};
+ghost use Rattle.buffer.specs.Pasted.{AtStart};
 ghost use Rattle.report.specs.Reported.{Reported};
 use answers::Loaded;
 

@@ -6,7 +6,7 @@ use mathlib.Core.List.{List, _++_}
 use lib.ListN.{length, length-append}
 use lib.Ieee.{Float, binary64, toBits}
 use Rattle.definitions.specs.Dwell.{text, secondsLine, entryLine, rowLines, tableLines}
-use Rattle.digits.specs.Pasted.{Room}
+use Rattle.buffer.specs.Pasted.{Room}
 use Rattle.digits.proofs.Digits.{decimal-at-most, length-hexadecimal}
 use Rattle.lines.proofs.Lines.{seconds-pieces, entry-pieces, row-none, row-grows, table-none, table-grows}
 

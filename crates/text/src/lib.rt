@@ -6,7 +6,7 @@ ghost use lib.ListN.{length};
 ghost use Rattle.definitions.specs.Sheet.{place};
 ghost use Rattle.definitions.specs.Dwell.{secondsLine, tableLines};
 ghost use Rattle.answers.specs.Answers.{tableGiven};
-ghost use Rattle.digits.specs.Pasted.{AtStart};
+ghost use Rattle.buffer.specs.Pasted.{AtStart};
 ghost use Rattle.text.specs.AnswerText.{answerText};
 use answers::Table;
 
@@ -16,7 +16,7 @@ fn seconds_text(n: usize, allowance: usize, answer: &[f64], out: &mut [u8]) -> u
     requires { ⌜ (n ≤ 32) × (n * n ≤ length (now answer)) × (32768 ≤ length (now out)) ⌝ }
     ensures { λ r. ⌜ AtStart (secondsLine n allowance ++ tableLines (place n (now (answer .entry))) n n) (now (out .entry)) (now (out .exit)) r ⌝ }
 {
-    let after_word = digits::put_bytes(b"seconds ", 0, out);
+    let after_word = buffer::put_bytes(b"seconds ", 0, out);
     let after_n = digits::put_field(n, b' ', after_word, out);
     let after_allowance = digits::put_field(allowance, b'\n', after_n, out);
     lines::put_table(n, answer, after_allowance, out)

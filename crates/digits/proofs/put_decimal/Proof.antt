@@ -7,8 +7,8 @@ use native.Mathlib.Omega.{arith}
 use mathlib.Core.List.{[]}
 use lib.ListN.{length, length-set}
 use Rattle.definitions.specs.Dwell.{decimal}
-use Rattle.digits.specs.Pasted.{pasted}
-use Rattle.digits.proofs.Pasting.{pasted-last, pasted-nothing}
+use Rattle.buffer.specs.Pasted.{pasted}
+use Rattle.buffer.proofs.Pasting.{pasted-last, pasted-nothing}
 use Rattle.digits.proofs.Digits.{decimal-one, decimal-more, decimal-some, length-decimal-one, length-decimal-more}
 use Rattle.digits.proofs.put_decimal.Statement.{statement}
 use Rattle.digits.proofs.put_decimal.Tie as tie

@@ -2,7 +2,7 @@
 use borrow.Author.Needs.{needs}
 use mathlib.Core.List.{[], _∷_}
 use Rattle.definitions.specs.Dwell.{decimal}
-use Rattle.digits.proofs.Pasting.{room-first, room-next, written-next}
+use Rattle.buffer.proofs.Pasting.{room-first, room-next, written-next}
 use Rattle.digits.proofs.put_field.Statement.{statement}
 use Rattle.digits.proofs.put_field.Tie as tie
 

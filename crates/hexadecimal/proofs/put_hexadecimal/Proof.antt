@@ -5,8 +5,8 @@ use Prim.Native.Nat.{_+_, _-_, _/_, _≤_}
 use native.Mathlib.Omega.{arith}
 use lib.ListN.{length, length-set}
 use Rattle.definitions.specs.Dwell.{hexadecimal}
-use Rattle.digits.specs.Pasted.{pasted}
-use Rattle.digits.proofs.Pasting.{pasted-last, pasted-nothing}
+use Rattle.buffer.specs.Pasted.{pasted}
+use Rattle.buffer.proofs.Pasting.{pasted-last, pasted-nothing}
 use Rattle.digits.proofs.Digits.{hexadecimal-none, hexadecimal-more, length-hexadecimal}
 use Rattle.hexadecimal.proofs.put_hexadecimal.Statement.{statement}
 use Rattle.hexadecimal.proofs.put_hexadecimal.Tie as tie

@@ -3,8 +3,8 @@ use borrow.Author.Needs.{needs}
 use mathlib.Core.List.{List, [], _∷_, _++_}
 use Prim.Native.Nat.{ℕ}
 use Rattle.definitions.specs.Dwell.{hexadecimal}
-use Rattle.digits.specs.Pasted.{Room}
-use Rattle.digits.proofs.Pasting.{room-1, room-2, room-3, room-4, written-4}
+use Rattle.buffer.specs.Pasted.{Room}
+use Rattle.buffer.proofs.Pasting.{room-1, room-2, room-3, room-4, written-4}
 use Rattle.digits.proofs.Digits.{field}
 use Rattle.lines.proofs.Lines.{entry-pieces}
 use Rattle.lines.proofs.put_entry.Statement.{statement}

@@ -7,9 +7,9 @@ use lib.ListN.{length}
 use lib.Ieee.{Float}
 use Rattle.definitions.specs.Sheet.{place}
 use Rattle.definitions.specs.Dwell.{rowLines, entryLine}
-use Rattle.digits.specs.Pasted.{Room, Written}
-use Rattle.digits.proofs.Pasting.{length-written}
-use Rattle.digits.proofs.Growing.{Turn, turn}
+use Rattle.buffer.specs.Pasted.{Room, Written}
+use Rattle.buffer.proofs.Pasting.{length-written}
+use Rattle.buffer.proofs.Growing.{Turn, turn}
 use Rattle.lines.proofs.Lines.{row-begun, row-grows, row-ends}
 use Rattle.lines.proofs.put_row.Statement.{statement}
 use Rattle.lines.proofs.put_row.Tie as tie

@@ -6,9 +6,9 @@ use mathlib.Core.List.{List}
 use lib.Ieee.{Float}
 use Rattle.definitions.specs.Sheet.{place}
 use Rattle.definitions.specs.Dwell.{rowLines, tableLines}
-use Rattle.digits.specs.Pasted.{Room, Written}
-use Rattle.digits.proofs.Pasting.{length-written}
-use Rattle.digits.proofs.Growing.{Turn, turn}
+use Rattle.buffer.specs.Pasted.{Room, Written}
+use Rattle.buffer.proofs.Pasting.{length-written}
+use Rattle.buffer.proofs.Growing.{Turn, turn}
 use Rattle.lines.proofs.Lines.{table-begun, table-grows}
 use Rattle.lines.proofs.put_table.Statement.{statement}
 use Rattle.lines.proofs.put_table.Tie as tie

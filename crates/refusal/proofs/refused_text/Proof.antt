@@ -4,8 +4,8 @@ use mathlib.Core.List.{List, _++_}
 use Prim.Native.Nat.{ℕ}
 use native.Mathlib.Omega.{arith}
 use Rattle.definitions.specs.Dwell.{text}
-use Rattle.digits.specs.Pasted.{Room}
-use Rattle.digits.proofs.Pasting.{room-2, room-3, room-4, written-4, written-at-start}
+use Rattle.buffer.specs.Pasted.{Room}
+use Rattle.buffer.proofs.Pasting.{room-2, room-3, room-4, written-4, written-at-start}
 use Rattle.digits.proofs.Digits.{field}
 use Rattle.refusal.proofs.RefusedLine.{refused-pieces, refused-room}
 use Rattle.refusal.proofs.refused_text.Statement.{statement}

@@ -5,8 +5,8 @@ use Prim.Native.Nat.{ℕ}
 use native.Mathlib.Omega.{arith}
 use Rattle.definitions.specs.Sheet.{place}
 use Rattle.definitions.specs.Dwell.{text, tableLines}
-use Rattle.digits.specs.Pasted.{Room}
-use Rattle.digits.proofs.Pasting.{room-2, room-3, room-4, written-4, written-at-start}
+use Rattle.buffer.specs.Pasted.{Room}
+use Rattle.buffer.proofs.Pasting.{room-2, room-3, room-4, written-4, written-at-start}
 use Rattle.digits.proofs.Digits.{field}
 use Rattle.lines.proofs.Lines.{seconds-pieces}
 use Rattle.text.proofs.TextLengths.{seconds-room}

@@ -1,14 +1,14 @@
--- `digits::put_bytes` meets its contract. The loop's invariant: the first k bytes are written. Assumes nothing.
+-- `buffer::put_bytes` meets its contract. The loop's invariant: the first k bytes are written. Assumes nothing.
 use Prim.Native.Nat.{ℕ, _+_, _-_, _≤_, _<_}
 use native.Mathlib.Omega.{arith}
 use mathlib.Core.List.{List, [], _∷_}
 use lib.ListN.{length, take, getD}
 use lib.Seq.{take-suc, take-length, take-all}
-use Rattle.digits.specs.Pasted.{Room, Written}
-use Rattle.digits.proofs.Growing.{Turn, turn}
-use Rattle.digits.proofs.Pasting.{written-nothing, length-written}
-use Rattle.digits.proofs.put_bytes.Statement.{statement}
-use Rattle.digits.proofs.put_bytes.Tie as tie
+use Rattle.buffer.specs.Pasted.{Room, Written}
+use Rattle.buffer.proofs.Growing.{Turn, turn}
+use Rattle.buffer.proofs.Pasting.{written-nothing, length-written}
+use Rattle.buffer.proofs.put_bytes.Statement.{statement}
+use Rattle.buffer.proofs.put_bytes.Tie as tie
 
 -- A turn writes one byte more of the text.
 byte-turn : (bytes : List ℕ) {at k next : ℕ} {out after : List ℕ} → Room bytes at out → k < length bytes → Written (take k bytes) at out after next

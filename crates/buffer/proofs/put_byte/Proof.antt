@@ -1,8 +1,8 @@
--- `digits::put_byte` meets its contract: one store pastes one byte. Assumes nothing.
+-- `buffer::put_byte` meets its contract: one store pastes one byte. Assumes nothing.
 use borrow.Author.Needs.{needs}
-use Rattle.digits.proofs.Pasting.{pasted-byte}
-use Rattle.digits.proofs.put_byte.Statement.{statement}
-use Rattle.digits.proofs.put_byte.Tie as tie
+use Rattle.buffer.proofs.Pasting.{pasted-byte}
+use Rattle.buffer.proofs.put_byte.Statement.{statement}
+use Rattle.buffer.proofs.put_byte.Tie as tie
 
 returns : tie.Need-returns
 returns c = record { bytes = pasted-byte _ _ _ (search needs); place = search needs }

@@ -6,8 +6,8 @@ use native.Mathlib.Numerals.{add-one}
 use native.Mathlib.Omega.{arith}
 use mathlib.Core.List.{List, _++_}
 use lib.ListN.{length, length-append}
-use Rattle.digits.specs.Pasted.{Room, Written}
-use Rattle.digits.proofs.Pasting.{room-next, written-next}
+use Rattle.buffer.specs.Pasted.{Room, Written}
+use Rattle.buffer.proofs.Pasting.{room-next, written-next}
 
 -- A turn: its piece has room at the place reached, and once it is written so is the text up to its end.
 pub record Turn (piece text : List ℕ) (at : ℕ) (bytes : List ℕ) (next : ℕ) (after : List ℕ) : Type 0 where

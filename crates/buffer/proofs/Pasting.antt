@@ -7,7 +7,7 @@ use native.Mathlib.Omega.{arith}
 use mathlib.Core.List.{List, [], _∷_, _++_, append-assoc, append-nil}
 use lib.ListN.{length, take, drop, set, length-append, length-take, length-drop, take-append-drop}
 use lib.Seq.{take-at, drop-at, drop-drop, set-split, take-append-le, take-take, length-take-le}
-use Rattle.digits.specs.Pasted.{pasted, Room, Written, AtStart}
+use Rattle.buffer.specs.Pasted.{pasted, Room, Written, AtStart}
 
 module _ (text : List ℕ) (at : ℕ) (bytes : List ℕ) (room : at + length text ≤ length bytes) where
   length-head : length (take at bytes ++ text) ≡ at + length text
