@@ -134,6 +134,6 @@ accuracy-rule reading n sheet fit accepted =
     let input : tableInput reading n sheet (n * n) ≡ pass = then-first (tableInput reading n sheet (n * n)) (question10 reading n sheet) accepted in
     let range : question10 reading n sheet ≡ pass = then-next (tableInput reading n sheet (n * n)) (question10 reading n sheet) accepted in
     accurate-table reading n sheet fit
-    (then-first (question1 reading) (question2 n then question3 n (length sheet) then question4 n (n * n) then numberQuestions reading n sheet) input)
+    (then-first (question1 reading) (question2 n then question3 n (length sheet) then question4 (n * n) (n * n) then numberQuestions reading n sheet) input)
     (table-numbers reading n sheet (n * n) input)
     (ask-yes (everyStepInRange reading n sheet) 10 0 0 range)

@@ -65,7 +65,7 @@ fileQuestions bytes room =
     then rowQuestions (headStages bytes) 1 (headStages bytes) (rest bytes)
     then question1 (headReading bytes)
     then question2 (headStages bytes)
-    then question4 (headStages bytes) room
+    then question4 (headStages bytes * headStages bytes) room
 
 -- "Kind 2, row: 2-byte row number, n numbers of 8 bytes": m words of 8 bytes, and those of m rows.
 unfoldable pub words : ℕ → List ℕ → List ℕ

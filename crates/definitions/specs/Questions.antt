@@ -48,12 +48,13 @@ question1 reading = ask (eqb reading 1 || eqb reading 2) 1 0 0
 unfoldable pub question2 : ℕ → Asked
 question2 n = ask (leb 1 n && leb n 32) 2 0 0
 
--- 3: "Does the lent sheet hold exactly n × n numbers?"  4: "Does the lent area for numbers hold at least n × n?"
+-- 3: "Does the lent sheet hold exactly n × n numbers?"
 unfoldable pub question3 : ℕ → ℕ → Asked
 question3 n held = ask (eqb held (n * n)) 3 0 0
 
+-- 4: "Does the lent area for numbers hold at least n × n?" Each call says how many places it needs.
 unfoldable pub question4 : ℕ → ℕ → Asked
-question4 n room = ask (leb (n * n) room) 4 0 0
+question4 needed room = ask (leb needed room) 4 0 0
 
 -- 5: "Are both stages asked for from 1 to n?"
 unfoldable pub question5 : ℕ → ℕ → ℕ → Asked
@@ -105,7 +106,7 @@ numberQuestions reading n sheet =
 -- The whole table is asked 1, 2, 3, 4, 6, 7, 8, 9 and 10; `room` is the length of the answer area.
 unfoldable pub tableInput : ℕ → ℕ → List Float → ℕ → Asked
 tableInput reading n sheet room =
-    question1 reading then question2 n then question3 n (length sheet) then question4 n room then numberQuestions reading n sheet
+    question1 reading then question2 n then question3 n (length sheet) then question4 (n * n) room then numberQuestions reading n sheet
 
 unfoldable pub tableQuestions : ℕ → ℕ → List Float → ℕ → Asked
 tableQuestions reading n sheet room = tableInput reading n sheet room then question10 reading n sheet

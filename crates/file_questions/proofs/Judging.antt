@@ -52,7 +52,7 @@ row-read n due bytes e =
 
 -- The questions that are left when the rows from the one due, which starts at `at`, have yet to be asked.
 unfoldable pub rowsLeft : List ℕ → ℕ → ℕ → ℕ → ℕ → Asked
-rowsLeft bytes room n at due = rowQuestions n due (n + 1 - due) (drop at bytes) then question4 n room
+rowsLeft bytes room n at due = rowQuestions n due (n + 1 - due) (drop at bytes) then question4 (n * n) room
 
 module _ (bytes : List ℕ) (room : ℕ) where
   pub head-cut : wholeRecord bytes ≡ false → fileQuestions bytes room ≡ refuse 11 0 0
@@ -100,7 +100,7 @@ module _ (bytes : List ℕ) (room : ℕ) where
         let some : length bytes - at ≡ 0 → ⊥ = λ z. ne (omega arith) in
         rw (none, length-drop, ne-eqb (length bytes - at) 0 some)
 
-    pub at-end : n < due → at ≡ length bytes → rowsLeft bytes room n at due ≡ question4 n room
+    pub at-end : n < due → at ≡ length bytes → rowsLeft bytes room n at due ≡ question4 (n * n) room
     unfolding rowsLeft rowQuestions
     at-end h e =
         let none : n + 1 - due ≡ 0 = omega arith in
@@ -119,11 +119,11 @@ module _ (bytes : List ℕ) (room : ℕ) where
 pub few-squared : (n : ℕ) → n ≤ 32 → n * n ≤ 1024
 few-squared n h = mul-le-mul h h
 
-pub room-short : (n room : ℕ) → room < n * n → question4 n room ≡ refuse 4 0 0
+pub room-short : (n room : ℕ) → room < n * n → question4 (n * n) room ≡ refuse 4 0 0
 unfolding question4
 room-short n room h = rw (lt-leb (n * n) room h)
 
-pub room-enough : (n room : ℕ) → n * n ≤ room → question4 n room ≡ pass
+pub room-enough : (n room : ℕ) → n * n ≤ room → question4 (n * n) room ≡ pass
 unfolding question4
 room-enough n room h = rw (le-leb (n * n) room h)
 

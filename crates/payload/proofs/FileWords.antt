@@ -114,7 +114,7 @@ record FilePassed (bytes : List ℕ) (n room : ℕ) : Type 0 where
   inside : 10 ≤ length bytes
   ends : rest bytes ≡ drop 10 bytes
   rows : rowQuestions n 1 n (rest bytes) ≡ pass
-  held : question4 n room ≡ pass
+  held : question4 (n * n) room ≡ pass
 
 file-passed : (bytes : List ℕ) (n : ℕ) (file : SheetFile bytes n) → FilePassed bytes n (file .room)
 unfolding fileQuestions rest
@@ -123,7 +123,7 @@ file-passed bytes n file =
     let whole = ask (wholeRecord bytes) 11 0 0 in
     let good = ask (goodHead bytes) 12 0 0 in
     let rows = rowQuestions stages 1 stages (rest bytes) in
-    let room = question4 stages (file .room) in
+    let room = question4 (stages * stages) (file .room) in
     let last = question1 (headReading bytes) then question2 stages then room in
     let from-head = then-next whole (good then rows then last) (file .passes) in
     let from-rows = then-next good (rows then last) from-head in

@@ -65,7 +65,7 @@ module _ (reading n : ℕ) (sheet : List Float) where
       unfolding tableInput
       table-accurate fit e =
           accurate-table reading n sheet fit
-          (then-first (question1 reading) (question2 n then question3 n (length sheet) then question4 n (length before) then numberQuestions reading n sheet) passed)
+          (then-first (question1 reading) (question2 n then question3 n (length sheet) then question4 (n * n) (length before) then numberQuestions reading n sheet) passed)
           (table-numbers reading n sheet (length before) passed)
           (holds (sym (stepped .range) ∙ e))
 

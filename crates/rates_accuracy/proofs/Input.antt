@@ -37,7 +37,7 @@ pub table-numbers :
     (reading n : ℕ) (sheet : List Float) (room : ℕ) → tableInput reading n sheet room ≡ pass → numberQuestions reading n sheet ≡ pass
 unfolding tableInput
 table-numbers reading n sheet room =
-    after-four (question1 reading) (question2 n) (question3 n (length sheet)) (question4 n room) (numberQuestions reading n sheet)
+    after-four (question1 reading) (question2 n) (question3 n (length sheet)) (question4 (n * n) room) (numberQuestions reading n sheet)
 
 pub entry-numbers :
     (reading n : ℕ) (sheet : List Float) (i j : ℕ) → entryInput reading n sheet i j ≡ pass → numberQuestions reading n sheet ≡ pass

@@ -106,8 +106,8 @@ module _ (reading n : ℕ) (sheet : List Float) where
   pub table-input-passed : (room : ℕ) → tableInput reading n sheet room ≡ pass → Square n sheet × (n * n ≤ room)
   unfolding tableInput question4
   table-input-passed room e =
-      let p = shape-passed (question4 n room then numberQuestions reading n sheet) e in
-      (p .0, leb→le (n * n) room (ask-yes (leb (n * n) room) 4 0 0 (then-first (question4 n room) (numberQuestions reading n sheet) (p .1))))
+      let p = shape-passed (question4 (n * n) room then numberQuestions reading n sheet) e in
+      (p .0, leb→le (n * n) room (ask-yes (leb (n * n) room) 4 0 0 (then-first (question4 (n * n) room) (numberQuestions reading n sheet) (p .1))))
 
   pub entry-input-passed : (i j : ℕ) → entryInput reading n sheet i j ≡ pass → Square n sheet × ((1 ≤ i) × (i ≤ n)) × ((1 ≤ j) × (j ≤ n))
   unfolding entryInput question5

@@ -1,7 +1,7 @@
 // Questions 1 to 5 of document 01: the reading, the number of stages, the lengths of the lent areas and the
 // stages asked for. Each answers 0, or the number of the first question that is answered no; their refusals
 // have no row and no column. And the number at a place of a sheet of that shape.
-ghost use Prim.Native.Nat.{_<_};
+ghost use Prim.Native.Nat.{_*_, _<_};
 ghost use mathlib.Core.Path.{_≡_};
 ghost use Rattle.definitions.specs.Sheet.{place};
 ghost use Rattle.definitions.specs.Questions.{_then_, question1, question2, question3, question4, question5};
@@ -26,7 +26,7 @@ fn ask_shape(reading: usize, n: usize, held: usize) -> usize
 
 // Questions 1 to 4, those of the whole table: `held` and `room` are the lengths of the sheet and of the answer area.
 pub fn ask_table(reading: usize, n: usize, held: usize, room: usize) -> usize
-    ensures { λ r. ⌜ ComesTo (question1 reading then question2 n then question3 n held then question4 n room) r 0 0 ⌝ }
+    ensures { λ r. ⌜ ComesTo (question1 reading then question2 n then question3 n held then question4 (n * n) room) r 0 0 ⌝ }
 {
     let shape = ask_shape(reading, n, held);
     if shape != 0 {

@@ -1,6 +1,6 @@
 -- `file_questions::judge` meets its contract. The loop's invariant: all before the row due is good, and the questions left are those from that row on. Assumes nothing.
 use borrow.Author.Needs.{needs}
-use Prim.Native.Nat.{ℕ, _+_, _-_, _≤_}
+use Prim.Native.Nat.{ℕ, _+_, _-_, _*_, _≤_}
 use mathlib.Core.Path.{_≡_, _∙_}
 use mathlib.Core.Bool.{true}
 use mathlib.Core.List.{List}
@@ -109,7 +109,7 @@ returns-5 c =
     (l .loop .inv .left ∙ bytes-after (bytes-of l) (room-of l) (l .before .field-at2 .result) (l .loop .at) (l .loop .due) (c .before .before .loop-test .left) (l .loop .inv .inside) (c .before .if5 .taken))
 
 -- After the last row only question 4 is left.
-rows-done : (c : tie.Else5 Inv-loop μ-loop) → fileQuestions (bytes-of (c .before .before)) (room-of (c .before .before)) ≡ question4 (c .before .before .before .field-at2 .result) (room-of (c .before .before))
+rows-done : (c : tie.Else5 Inv-loop μ-loop) → fileQuestions (bytes-of (c .before .before)) (room-of (c .before .before)) ≡ question4 (c .before .before .before .field-at2 .result * c .before .before .before .field-at2 .result) (room-of (c .before .before))
 rows-done c =
     let l = c .before .before in
     l .loop .inv .left ∙ at-end (bytes-of l) (room-of l) (l .before .field-at2 .result) (l .loop .at) (l .loop .due) (c .before .loop-test .left) (c .if5 .left)
