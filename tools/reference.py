@@ -1,10 +1,10 @@
 #!/usr/bin/env python3
 """The independent reference of the dwell-times project.
 
-Everything here is written from document 01 ("Dwell times from a flow sheet") and source document 000
-alone.  It holds the steps with binary64 numbers and their range test, the questions, the three
-services, the sheet file, the dwell program, the exact inverse with the accuracy rule, random sheets,
-and a self-test.  A Python float is a binary64 number and each of +, *, / is one rounding to nearest,
+Everything here is written from document 01 ("Dwell times from a flow sheet"), document 02 (the requests
+after it) and source document 000 alone.  It holds the steps with binary64 numbers and their range test,
+the questions, the services, the sheet file, the dwell program, the exact inverse with the accuracy rule,
+random sheets, and a self-test.  A Python float is a binary64 number and each of +, *, / is one rounding to nearest,
 ties to even; nothing here uses a fused or compensated operation.  Stages are numbered from 0 in the
 code and from 1 in every answer.
 """
@@ -64,6 +64,12 @@ class Loaded:
     @property
     def numbers(self) -> list[float]:
         return [number_of(word) for word in self.words]
+
+
+@dataclass(frozen=True)
+class Saved:
+    """The file that a sheet is saved as; the call hands over its length."""
+    data: bytes
 
 
 def bits_of(number: float) -> int:
@@ -270,14 +276,14 @@ def ask_size(n: int) -> Optional[Refused]:
     return None if 1 <= n <= LIMIT else Refused(2)
 
 
-def ask_sheet_length(n: int, sheet: Sequence[float]) -> Optional[Refused]:
+def ask_sheet_length(n: int, sheet: Sequence[object]) -> Optional[Refused]:
     """Question 3: does the sheet hold exactly n × n numbers?"""
     return None if len(sheet) == n * n else Refused(3)
 
 
-def ask_area(n: int, area_length: int) -> Optional[Refused]:
-    """Question 4: does the lent area hold at least n × n numbers?"""
-    return None if area_length >= n * n else Refused(4)
+def ask_area(needed: int, area_length: int) -> Optional[Refused]:
+    """Question 4: does the lent area hold as many numbers, or bytes, as the call needs?"""
+    return None if area_length >= needed else Refused(4)
 
 
 def ask_stages(n: int, i: int, j: int) -> Optional[Refused]:
@@ -349,7 +355,7 @@ def invert(reading: int, n: int, sheet: Sequence[float]) -> Union[Matrix, Refuse
 def table(reading: int, n: int, sheet: Sequence[float], area_length: int) -> Union[Table, Refused]:
     """The whole table: questions 1, 2, 3, 4, 6, 7, 8, 9, 10."""
     refusal = (ask_reading(reading) or ask_size(n) or ask_sheet_length(n, sheet)
-               or ask_area(n, area_length) or ask_numbers(reading, n, sheet))
+               or ask_area(n * n, area_length) or ask_numbers(reading, n, sheet))
     if refusal:
         return refusal
     x = invert(reading, n, sheet)
@@ -420,7 +426,14 @@ def load(data: bytes, area_length: int) -> Union[Loaded, Refused]:
         words += struct.unpack_from(f"<{n}Q", payload, 2)
     if at != len(data):
         return Refused(14)
-    return ask_reading(reading) or ask_size(n) or ask_area(n, area_length) or Loaded(reading, n, words)
+    return ask_reading(reading) or ask_size(n) or ask_area(n * n, area_length) or Loaded(reading, n, words)
+
+
+def save(reading: int, n: int, words: Sequence[int], area_length: int) -> Union[Saved, Refused]:
+    """Saving (02, U1): questions 1, 2, 3, then 4, which asks for 10 + n × (8n + 8) bytes, and no other."""
+    refusal = ask_reading(reading) or ask_size(n) or ask_sheet_length(n, words)
+    refusal = refusal or ask_area(10 + n * (8 * n + 8), area_length)
+    return refusal or Saved(make_file_words(reading, n, words))
 
 
 def table_of_stream(stream: bytes) -> Union[tuple[Loaded, Table], Refused]:
@@ -1064,6 +1077,29 @@ def test_file(check: Checks, rng: random.Random) -> None:
     check.equal("10,006 bytes", load(struct.pack("<IH", 9000, 2) + bytes(10000), 1024), head)
 
 
+def test_saving(check: Checks, rng: random.Random) -> None:
+    """Saving: the bytes in full, the order of 1 to 4, no other number, and both round trips."""
+    check.equal("P saved", save(1, 2, [bits_of(x) for x in P_SHEET], 58), Saved(bytes.fromhex(
+        "040000000100" "01000200" "120000000200" "0100" "000000000000f03f" "000000000000f0bf"
+        "120000000200" "0200" "000000000000f0bf" "0000000000000000")))
+    for what, arguments, expected in [
+            ("reading 0", (0, 0, [], 0), 1), ("reading 3", (3, 33, [], 0), 1), ("n = 0", (1, 0, [], 0), 2),
+            ("n = 33", (2, 33, [0] * 1089, 9000), 2), ("n = 2^63", (1, 2 ** 63, [], 0), 2),
+            ("a number too few", (1, 2, [0] * 3, 0), 3), ("a number too many", (2, 2, [0] * 5, 58), 3),
+            ("a byte too few", (1, 2, [0] * 4, 57), 4), ("no room", (2, 1, [0], 0), 4)]:
+        check.equal(f"saving, {what}", save(*arguments), Refused(expected))
+    for reading in (1, 2):
+        for n in range(1, LIMIT + 1):
+            size = 10 + n * (8 * n + 8)
+            words = [rng.choice([rng.getrandbits(64), 0x7ff0000000000001, 0xfff8000000000000, 0, 1 << 63, 1])
+                     for _ in range(n * n)]
+            saved = save(reading, n, words, size)
+            check.true(f"{n} stages saved", isinstance(saved, Saved) and len(saved.data) == size)
+            check.equal("loaded again", load(saved.data, n * n), Loaded(reading, n, words))
+            check.equal("saved again", save(reading, n, load(saved.data, n * n).words, size + 5), saved)
+            check.equal("one byte too few", save(reading, n, words, size - 1), Refused(4))
+
+
 def test_dwell(check: Checks) -> None:
     """What the program prints, and how many bytes it judges."""
     check.equal("dwell of P", dwell(make_file(1, 2, P_SHEET)), P_PRINTED)
@@ -1195,6 +1231,7 @@ def self_test(long: bool) -> int:
         test_literal_steps(check, rng)
         test_trapped(check, rng)
         test_file(check, rng)
+        test_saving(check, rng)
         test_dwell(check)
         test_exact_side(check, rng)
         test_random_sheets(check, rng, long)

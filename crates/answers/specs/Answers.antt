@@ -9,6 +9,8 @@ use Rattle.answers.specs.declared.Entry.{Entry}
 use Rattle.answers.specs.declared.Entry.the-variants as entry
 use Rattle.answers.specs.declared.Loaded.{Loaded}
 use Rattle.answers.specs.declared.Loaded.the-variants as loaded
+use Rattle.answers.specs.declared.Saved.{Saved}
+use Rattle.answers.specs.declared.Saved.the-variants as saved
 
 abbrev pub tableGiven : Table → Answer ℕ
 tableGiven (table.Allowed allowance) = given allowance
@@ -21,3 +23,7 @@ entryGiven (entry.Refused number row column) = refused number row column
 abbrev pub headGiven : Loaded → Answer Head
 headGiven (loaded.Sheet reading n) = given (record { reading = reading; n = n })
 headGiven (loaded.Refused number row column) = refused number row column
+
+abbrev pub savedGiven : Saved → Answer ℕ
+savedGiven (saved.File length) = given length
+savedGiven (saved.Refused number row column) = refused number row column

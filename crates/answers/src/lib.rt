@@ -45,3 +45,15 @@ pub enum Loaded {
         column: usize,
     },
 }
+
+// Saving: the length of the file.
+pub enum Saved {
+    File {
+        length: usize,
+    },
+    Refused {
+        number: usize,
+        row: usize,
+        column: usize,
+    },
+}

@@ -97,31 +97,47 @@ module _ (a b : List ℕ) {at : ℕ} {bytes : List ℕ} (room : Room (a ++ b) at
       place = omega (arith, w .place, first .place, length-append a b);
     }
 
--- Four writers in a row.
-module _ (a b c d : List ℕ) {at : ℕ} {bytes : List ℕ} (room : Room (a ++ b ++ c ++ d) at bytes) where
-  room-abc : Room (a ++ b ++ c) at bytes
-  room-abc = room-first (a ++ b ++ c) d room
-
+-- Three writers in a row.
+module _ (a b c : List ℕ) {at : ℕ} {bytes : List ℕ} (room : Room (a ++ b ++ c) at bytes) where
   room-ab : Room (a ++ b) at bytes
-  room-ab = room-first (a ++ b) c room-abc
+  room-ab = room-first (a ++ b) c room
 
-  pub room-1 : Room a at bytes
-  room-1 = room-first a b room-ab
+  pub room3-1 : Room a at bytes
+  room3-1 = room-first a b room-ab
 
   module _ {n₁ : ℕ} {l₁ : List ℕ} (w₁ : Written a at bytes l₁ n₁) where
-    pub room-2 : Room b n₁ l₁
-    room-2 = room-next a b room-ab w₁
+    pub room3-2 : Room b n₁ l₁
+    room3-2 = room-next a b room-ab w₁
 
     module _ {n₂ : ℕ} {l₂ : List ℕ} (w₂ : Written b n₁ l₁ l₂ n₂) where
       written-ab : Written (a ++ b) at bytes l₂ n₂
       written-ab = written-next a b room-ab w₁ w₂
 
+      pub room3-3 : Room c n₂ l₂
+      room3-3 = room-next (a ++ b) c room written-ab
+
+      pub written-3 : {n₃ : ℕ} {l₃ : List ℕ} → Written c n₂ l₂ l₃ n₃ → Written (a ++ b ++ c) at bytes l₃ n₃
+      written-3 w₃ = written-next (a ++ b) c room written-ab w₃
+
+-- Four writers in a row.
+module _ (a b c d : List ℕ) {at : ℕ} {bytes : List ℕ} (room : Room (a ++ b ++ c ++ d) at bytes) where
+  room-abc : Room (a ++ b ++ c) at bytes
+  room-abc = room-first (a ++ b ++ c) d room
+
+  pub room-1 : Room a at bytes
+  room-1 = room3-1 a b c room-abc
+
+  module _ {n₁ : ℕ} {l₁ : List ℕ} (w₁ : Written a at bytes l₁ n₁) where
+    pub room-2 : Room b n₁ l₁
+    room-2 = room3-2 a b c room-abc w₁
+
+    module _ {n₂ : ℕ} {l₂ : List ℕ} (w₂ : Written b n₁ l₁ l₂ n₂) where
       pub room-3 : Room c n₂ l₂
-      room-3 = room-next (a ++ b) c room-abc written-ab
+      room-3 = room3-3 a b c room-abc w₁ w₂
 
       module _ {n₃ : ℕ} {l₃ : List ℕ} (w₃ : Written c n₂ l₂ l₃ n₃) where
         written-abc : Written (a ++ b ++ c) at bytes l₃ n₃
-        written-abc = written-next (a ++ b) c room-abc written-ab w₃
+        written-abc = written-3 a b c room-abc w₁ w₂ w₃
 
         pub room-4 : Room d n₃ l₃
         room-4 = room-next (a ++ b ++ c) d room written-abc

@@ -1,7 +1,7 @@
 -- The sheet files, by computation from the definitions.
 use mathlib.Core.Path.{refl}
 use Rattle.definitions.proofs.Computing.{computing}
-use Rattle.definitions.specs.FileExamples.{DwellPrintsP, LongestFile, FileClaim, files}
+use Rattle.definitions.specs.FileExamples.{DwellPrintsP, LongestFile, FileClaim, files, SaveClaim, saves}
 
 pub dwell-prints-P : DwellPrintsP
 unfolding computing
@@ -14,3 +14,7 @@ longest-file = refl
 pub files-hold : FileClaim files
 unfolding computing
 files-hold = refl
+
+pub saves-hold : SaveClaim saves
+unfolding computing
+saves-hold = refl

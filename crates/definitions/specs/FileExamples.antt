@@ -1,9 +1,13 @@
--- Sheet files: the file of sheet P with what dwell prints for it (document 01, "The sheet file"), and damaged files.
+-- Sheet files: the file of sheet P with what dwell prints for it (document 01, "The sheet file"), damaged files, and sheets that
+-- are saved (document 02, U1).
 use Prim.Native.Nat.{ℕ}
 use mathlib.Core.List.{List, [], _∷_, _++_, map}
 use mathlib.Core.Path.{_≡_}
+use lib.ListN.{length}
+use Rattle.definitions.specs.Tables.{list}
 use Rattle.definitions.specs.Services.{Answer, given, refused}
 use Rattle.definitions.specs.File.{Head, fileAnswer, longestFile}
+use Rattle.definitions.specs.Saving.{saveAnswer, savedWords}
 use Rattle.definitions.specs.Dwell.{text, dwellText}
 
 -- A record from its length, kind and payload, each length and kind below 256.
@@ -30,9 +34,12 @@ row1OfP = fileRecord 18 2 ((1 ∷ 0 ∷ []) ++ one ++ minusOne)
 abbrev pub row2OfP : List ℕ
 row2OfP = fileRecord 18 2 ((2 ∷ 0 ∷ []) ++ minusOne ++ nought)
 
+abbrev pub fileOfP : List ℕ
+fileOfP = headOfP ++ row1OfP ++ row2OfP
+
 unfoldable pub DwellPrintsP : Type 0
 DwellPrintsP =
-    dwellText (headOfP ++ row1OfP ++ row2OfP)
+    dwellText fileOfP
     ≡ text "seconds 2 32\n1 1 3ff0000000000000\n1 2 3ff0000000000000\n2 1 3ff0000000000000\n2 2 4000000000000000\n"
 
 -- "The longest file is 8,458 bytes."
@@ -53,7 +60,7 @@ FileClaim lines = map (λ line. fileAnswer (line .bytes) (line .room)) lines ≡
 
 unfoldable pub files : List FileLine
 files =
-    file (headOfP ++ row1OfP ++ row2OfP) 4 (given (record { reading = 1; n = 2 }))
+    file fileOfP 4 (given (record { reading = 1; n = 2 }))
     -- nothing; five bytes; a payload cut short
     ∷ file [] 4 (refused 11 0 0)
     ∷ file (4 ∷ 0 ∷ 0 ∷ 0 ∷ 1 ∷ []) 4 (refused 11 0 0)
@@ -68,6 +75,55 @@ files =
     ∷ file (headOfP ++ row2OfP ++ (18 ∷ [])) 4 (refused 13 1 0)
     ∷ file (headOfP ++ row1OfP ++ (18 ∷ [])) 4 (refused 11 2 0)
     -- one byte more, which is asked before the room; too little room
-    ∷ file (headOfP ++ row1OfP ++ row2OfP ++ (0 ∷ [])) 3 (refused 14 0 0)
-    ∷ file (headOfP ++ row1OfP ++ row2OfP) 3 (refused 4 0 0)
+    ∷ file (fileOfP ++ (0 ∷ [])) 3 (refused 14 0 0)
+    ∷ file fileOfP 3 (refused 4 0 0)
+    ∷ []
+
+-- What a call of saving answers and leaves in the bytes lent.
+pub record Left : Type 0 where
+  pub answers : Answer ℕ
+  pub bytes : List ℕ
+
+-- A sheet of 64-bit words, the number of bytes lent, each of them 7 before the call, and what is left.
+pub record SaveLine : Type 0 where
+  pub reading : ℕ
+  pub n : ℕ
+  pub words : List ℕ
+  pub room : ℕ
+  pub expected : Left
+
+abbrev pub sevens : ℕ → List ℕ
+sevens room = list (λ i. 7) room
+
+abbrev pub saved : ℕ → ℕ → List ℕ → ℕ → List ℕ → SaveLine
+saved reading n words room file =
+    record { reading = reading; n = n; words = words; room = room; expected = record { answers = given (length file); bytes = file ++ sevens 2 } }
+
+abbrev pub notSaved : ℕ → ℕ → List ℕ → ℕ → ℕ → SaveLine
+notSaved reading n words room number =
+    record { reading = reading; n = n; words = words; room = room; expected = record { answers = refused number 0 0; bytes = sevens room } }
+
+abbrev pub leftBy : SaveLine → Left
+leftBy line =
+    record {
+      answers = saveAnswer (line .reading) (line .n) (length (line .words)) (line .room);
+      bytes = savedWords (line .reading) (line .n) (line .words) (sevens (line .room));
+    }
+
+unfoldable pub SaveClaim : List SaveLine → Type 0
+SaveClaim lines = map leftBy lines ≡ map (λ line. line .expected) lines
+
+abbrev pub wordsOfP : List ℕ
+wordsOfP = 0x3ff0000000000000 ∷ 0xbff0000000000000 ∷ 0xbff0000000000000 ∷ 0 ∷ []
+
+unfoldable pub saves : List SaveLine
+saves =
+    saved 1 2 wordsOfP 60 fileOfP
+    -- a NaN pattern, byte for byte
+    ∷ saved 2 1 (0xfff4000012345678 ∷ []) 28 (fileRecord 4 1 (2 ∷ 0 ∷ 1 ∷ 0 ∷ []) ++ fileRecord 10 2 (1 ∷ 0 ∷ 120 ∷ 86 ∷ 52 ∷ 18 ∷ 0 ∷ 0 ∷ 244 ∷ 255 ∷ []))
+    -- 1, 2, 3 and 4, each before the next; for 4 one byte is missing
+    ∷ notSaved 3 33 [] 0 1
+    ∷ notSaved 1 33 [] 0 2
+    ∷ notSaved 1 2 (1 ∷ 2 ∷ 3 ∷ []) 0 3
+    ∷ notSaved 1 2 wordsOfP 57 4
     ∷ []

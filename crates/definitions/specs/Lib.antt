@@ -10,6 +10,7 @@ pub mod Fractions
 pub mod Matrix
 pub mod Accuracy
 pub mod File
+pub mod Saving
 pub mod Dwell
 pub mod Starred
 pub mod ExactExamples

@@ -1,13 +1,16 @@
-// Reading a sheet file into a lent area, of 64-bit words or of f64. The whole file is judged
-// before the first place is written.
+// Reading a sheet file into a lent area, of 64-bit words or of f64, and saving a sheet of either as a file in
+// lent bytes. All questions are asked before the first place is written.
 ghost use mathlib.Core.Path.{_≡_};
 ghost use mathlib.Core.Bool.{cond};
 ghost use Prim.Native.Nat.{suc};
 ghost use lib.Dec.{ltb};
 ghost use lib.ListN.{length};
+ghost use Rattle.definitions.specs.Services.{refused};
 ghost use Rattle.definitions.specs.File.{longestFile, fileAnswer, fileWordArea, fileNumberArea};
-ghost use Rattle.answers.specs.Answers.{headGiven};
+ghost use Rattle.definitions.specs.Saving.{saveAnswer, savedWords, savedNumbers};
+ghost use Rattle.answers.specs.Answers.{headGiven, savedGiven};
 use answers::Loaded;
+use answers::Saved;
 use file_questions::judge;
 
 // Reads a sheet file into an area of 64-bit words, which keep every bit.
@@ -32,6 +35,43 @@ pub fn read_numbers(bytes: &[u8], area: &mut [f64]) -> Loaded
         payload::fill_numbers(bytes, n, area);
     }
     answer
+}
+
+// A refusal of saving has no row and no column.
+fn not_saved(number: usize) -> Saved
+    ensures { λ r. ⌜ savedGiven r ≡ refused number 0 0 ⌝ }
+{
+    Saved::Refused {
+        number,
+        row: 0,
+        column: 0,
+    }
+}
+
+// Saves a sheet of 64-bit words: its file in the first bytes of the area, with every bit of the words.
+pub fn save_words(reading: usize, n: usize, words: &[u64], area: &mut [u8]) -> Saved
+    ensures { λ r. ⌜ savedGiven r ≡ saveAnswer reading n (length (now (words .entry))) (length (now (area .entry))) ⌝ }
+    ensures { λ _. ⌜ now (area .exit) ≡ savedWords reading n (now (words .entry)) (now (area .entry)) ⌝ }
+{
+    let number = shape::ask_save(reading, n, words.len(), area.len());
+    if number != 0 {
+        return not_saved(number);
+    }
+    let length = saving::put_sheet(reading, n, words, area);
+    Saved::File { length }
+}
+
+// Saves a sheet of numbers, each by its bits.
+pub fn save_numbers(reading: usize, n: usize, sheet: &[f64], area: &mut [u8]) -> Saved
+    ensures { λ r. ⌜ savedGiven r ≡ saveAnswer reading n (length (now (sheet .entry))) (length (now (area .entry))) ⌝ }
+    ensures { λ _. ⌜ now (area .exit) ≡ savedNumbers reading n (now (sheet .entry)) (now (area .entry)) ⌝ }
+{
+    let number = shape::ask_save(reading, n, sheet.len(), area.len());
+    if number != 0 {
+        return not_saved(number);
+    }
+    let length = saving::put_numbers(reading, n, sheet, area);
+    Saved::File { length }
 }
 
 // One byte more than the longest file: dwell takes no more of its input.

@@ -1,2 +1,1 @@
-mod Filling
 pub mod FileWords

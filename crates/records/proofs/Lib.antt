@@ -1,2 +1,3 @@
 mod Little
 pub mod Records
+pub mod LittleBytes

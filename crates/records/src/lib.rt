@@ -1,9 +1,12 @@
 // Records of a file (document 01, "The sheet file"): a 4-byte length of the payload, a 2-byte kind, the payload,
 // all little-endian.
 ghost use mathlib.Core.Path.{_≡_};
+ghost use mathlib.Core.List.{_++_};
 ghost use Prim.Native.Nat.{_+_, _≤_};
 ghost use lib.ListN.{length, drop};
 ghost use Rattle.definitions.specs.File.{little, wholeRecord};
+ghost use Rattle.definitions.specs.Saving.{littleBytes};
+ghost use Rattle.buffer.specs.Pasted.{Room, Written};
 
 // The number in the `width` bytes from `at` on, little-endian: read from the last byte to the first.
 pub fn number_at(bytes: &[u8], at: usize, width: usize) -> u64
@@ -37,4 +40,29 @@ pub fn is_whole(bytes: &[u8], at: usize) -> bool
         return false;
     }
     field_at(bytes, at, 4) <= left - 6
+}
+
+// Writes a number in `width` bytes, little-endian, as `buffer` writes.
+pub fn put_number(number: u64, width: usize, at: usize, out: &mut [u8]) -> usize
+    requires { ⌜ Room (littleBytes width number) at (now out) ⌝ }
+    ensures { λ r. ⌜ Written (littleBytes width number) at (now (out .entry)) (now (out .exit)) r ⌝ }
+{
+    let mut rest = number;
+    let mut next = at;
+    let mut k = 0;
+    while k < width {
+        next = buffer::put_byte((rest % 256) as u8, next, out);
+        rest = rest / 256;
+        k += 1;
+    }
+    next
+}
+
+// Writes what stands before a payload: its length and the kind of its record.
+pub fn put_header(length: usize, kind: usize, at: usize, out: &mut [u8]) -> usize
+    requires { ⌜ Room (littleBytes 4 length ++ littleBytes 2 kind) at (now out) ⌝ }
+    ensures { λ r. ⌜ Written (littleBytes 4 length ++ littleBytes 2 kind) at (now (out .entry)) (now (out .exit)) r ⌝ }
+{
+    let next = put_number(length as u64, 4, at, out);
+    put_number(kind as u64, 2, next, out)
 }

@@ -1,15 +1,17 @@
 -- Questions 1, 2 and 3 with those after them, and what is known of a call once they passed.
 use mathlib.Core.Path.{_≡_, sym, ap, _∙_}
 use mathlib.Core.Bool.{true, false, not, _&&_, _||_}
-use borrow.Author.Tests.{not-false, eq-eqb, ne-eqb, leb-true}
+use borrow.Author.Tests.{not-false, eq-eqb, ne-eqb, leb-true, lt-leb, le-leb}
 use native.Mathlib.Omega.{arith}
 use mathlib.Core.List.{List}
-use Prim.Native.Nat.{ℕ, _*_, _≤_}
+use Prim.Native.Nat.{ℕ, _*_, _≤_, _<_}
 use lib.Dec.{T, leb, eqb, leb→le, eqb→eq}
 use lib.ListN.{length}
 use lib.Ieee.{Float}
 use lib.Ieee.Fits.{and-l, and-r}
 use Rattle.definitions.specs.Questions.{Asked, pass, _then_, question1, question2, question3, question4, question5, numberQuestions, tableInput, entryInput}
+use Rattle.definitions.specs.File.{fileLength}
+use Rattle.definitions.specs.Saving.{saveQuestions}
 use Rattle.steps.proofs.QuestionLaws.{then-first, then-next, then-assoc, ask-yes}
 use Rattle.answers.specs.Outcome.{ComesTo}
 use Rattle.answers.proofs.Outcome.{all-pass, no, asked-no, asked-yes}
@@ -64,7 +66,16 @@ module _ (reading n held : ℕ) where
       pub few-passed : n ≤ 32
       few-passed = leb-true n 32 (and-second (leb 1 n) (leb n 32) (not-false (leb 1 n && leb n 32) second))
 
--- And question 5.
+-- And question 4, for any number of places, and question 5.
+module _ (needed room : ℕ) where
+  pub bad-room : room < needed → ComesTo (question4 needed room) 4 0 0
+  unfolding question4
+  bad-room h = no (λ z. omega arith) (rw (lt-leb needed room h))
+
+  pub good-room : needed ≤ room → ComesTo (question4 needed room) 0 0 0
+  unfolding question4
+  good-room h = all-pass (rw (le-leb needed room h))
+
 module _ (n i j : ℕ) where
   pub bad-entry : not (leb 1 i && leb i n && (leb 1 j && leb j n)) ≡ true → ComesTo (question5 n i j) 5 0 0
   unfolding question5
@@ -91,23 +102,34 @@ module _ (reading n held : ℕ) where
       ∙ ap (λ q. question1 reading then q)
       (then-assoc (question2 n) (question3 n held then own) rest ∙ ap (λ q. question2 n then q) (then-assoc (question3 n held) own rest))
 
+pub lengths-passed : (reading n held : ℕ) (rest : Asked) → shapeThen reading n held rest ≡ pass → (n ≤ 32) × (held ≡ n * n) × (rest ≡ pass)
+lengths-passed reading n held rest e =
+    let third = then-next (question2 n) (question3 n held then rest) (then-next (question1 reading) (question2 n then question3 n held then rest) e) in
+    (shape-few reading n (question3 n held then rest) e, all-pairs n held (then-first (question3 n held) rest third), then-next (question3 n held) rest third)
+
+room-held : (needed room : ℕ) → question4 needed room ≡ pass → needed ≤ room
+unfolding question4
+room-held needed room e = leb→le needed room (ask-yes (leb needed room) 4 0 0 e)
+
+-- Saving has no further questions.
+pub save-passed : (reading n held room : ℕ) → saveQuestions reading n held room ≡ pass → (n ≤ 32) × (held ≡ n * n) × (fileLength n ≤ room)
+unfolding saveQuestions
+save-passed reading n held room e =
+    let p = lengths-passed reading n held (question4 (fileLength n) room) e in
+    (p .0, p .1, room-held (fileLength n) room (p .2))
+
 module _ (reading n : ℕ) (sheet : List Float) where
   pub shape-passed : (rest : Asked) → shapeThen reading n (length sheet) rest ≡ pass → Square n sheet × (rest ≡ pass)
   shape-passed rest e =
-      let third = then-next (question2 n) (question3 n (length sheet) then rest) (then-next (question1 reading) (question2 n then question3 n (length sheet) then rest) e) in (
-        record {
-          few = shape-few reading n (question3 n (length sheet) then rest) e;
-          held = all-pairs n (length sheet) (then-first (question3 n (length sheet)) rest third);
-        },
-        then-next (question3 n (length sheet)) rest third,
-      )
+      let p = lengths-passed reading n (length sheet) rest e in
+      (record { few = p .0; held = p .1 }, p .2)
 
   -- The calls' own questions, 4 and 5, come next.
   pub table-input-passed : (room : ℕ) → tableInput reading n sheet room ≡ pass → Square n sheet × (n * n ≤ room)
-  unfolding tableInput question4
+  unfolding tableInput
   table-input-passed room e =
       let p = shape-passed (question4 (n * n) room then numberQuestions reading n sheet) e in
-      (p .0, leb→le (n * n) room (ask-yes (leb (n * n) room) 4 0 0 (then-first (question4 (n * n) room) (numberQuestions reading n sheet) (p .1))))
+      (p .0, room-held (n * n) room (then-first (question4 (n * n) room) (numberQuestions reading n sheet) (p .1)))
 
   pub entry-input-passed : (i j : ℕ) → entryInput reading n sheet i j ≡ pass → Square n sheet × ((1 ≤ i) × (i ≤ n)) × ((1 ≤ j) × (j ≤ n))
   unfolding entryInput question5

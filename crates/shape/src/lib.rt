@@ -1,10 +1,11 @@
 // Questions 1 to 5 of document 01: the reading, the number of stages, the lengths of the lent areas and the
-// stages asked for. Each answers 0, or the number of the first question that is answered no; their refusals
+// stages asked for, and those of saving (document 02, U1). Each answers 0, or the number of the first question that is answered no; their refusals
 // have no row and no column. And the number at a place of a sheet of that shape.
 ghost use Prim.Native.Nat.{_*_, _<_};
 ghost use mathlib.Core.Path.{_≡_};
 ghost use Rattle.definitions.specs.Sheet.{place};
 ghost use Rattle.definitions.specs.Questions.{_then_, question1, question2, question3, question4, question5};
+ghost use Rattle.definitions.specs.Saving.{saveQuestions};
 ghost use Rattle.answers.specs.Outcome.{ComesTo};
 ghost use Rattle.shape.specs.Square.{Square};
 
@@ -33,6 +34,20 @@ pub fn ask_table(reading: usize, n: usize, held: usize, room: usize) -> usize
         return shape;
     }
     if room < n * n {
+        return 4;
+    }
+    0
+}
+
+// Questions 1 to 4 of saving: `room` is the number of bytes lent.
+pub fn ask_save(reading: usize, n: usize, held: usize, room: usize) -> usize
+    ensures { λ r. ⌜ ComesTo (saveQuestions reading n held room) r 0 0 ⌝ }
+{
+    let shape = ask_shape(reading, n, held);
+    if shape != 0 {
+        return shape;
+    }
+    if room < 10 + n * (8 + 8 * n) {
         return 4;
     }
     0

@@ -11,3 +11,4 @@ pub mod MarginsSteps
 pub mod QuestionLaws
 pub mod Searches
 pub mod Trapped
+pub mod Filling

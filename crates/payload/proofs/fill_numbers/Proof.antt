@@ -4,13 +4,13 @@ use mathlib.Core.Path.{ap, _∙_}
 use native.Mathlib.Omega.{arith}
 use lib.Ieee.{binary64, ofBits}
 use Rattle.definitions.specs.File.{fileNumbers}
-use Rattle.payload.proofs.Filling.{Filling, none-yet, one-more, all-written}
+use Rattle.steps.proofs.Filling.{Filling, none-yet, one-more, all-written}
 use Rattle.payload.proofs.FileWords.{few-words, file-numbers-length, file-number}
 use Rattle.payload.proofs.fill_numbers.Statement.{statement}
 use Rattle.payload.proofs.fill_numbers.Tie as tie
 
 abbrev Inv-loop : tie.InvT-loop
-Inv-loop bytes n area₀ numbers k₀ area k = Filling (fileNumbers bytes) area₀ area n k
+Inv-loop bytes n area₀ numbers k₀ area k = Filling (fileNumbers bytes) area₀ area (n * n) k
 
 abbrev μ-loop : tie.MeasureT-loop
 μ-loop bytes n area₀ numbers k₀ area k = n * n - k
@@ -18,7 +18,7 @@ abbrev μ-loop : tie.MeasureT-loop
 loop-holds : tie.Need-loop-holds Inv-loop μ-loop
 loop-holds c =
     let s = c .before .before in
-    none-yet (few-words (s .args .bytes .now) (s .args .n) (s .pre .0)) (file-numbers-length (s .args .bytes .now) (s .args .n) (s .pre .0)) (s .pre .1)
+    none-yet (file-numbers-length (s .args .bytes .now) (s .args .n) (s .pre .0)) (s .pre .1)
 
 mul-numbers : tie.Need-mul-numbers Inv-loop μ-loop
 mul-numbers c = omega (arith, few-words (c .before .before .args .bytes .now) (c .before .before .args .n) (c .before .before .pre .0))

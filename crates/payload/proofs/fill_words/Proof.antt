@@ -2,13 +2,13 @@
 use Prim.Native.Nat.{_-_, _*_}
 use native.Mathlib.Omega.{arith}
 use Rattle.definitions.specs.File.{fileWords}
-use Rattle.payload.proofs.Filling.{Filling, none-yet, one-more, all-written}
+use Rattle.steps.proofs.Filling.{Filling, none-yet, one-more, all-written}
 use Rattle.payload.proofs.FileWords.{few-words, file-words-length}
 use Rattle.payload.proofs.fill_words.Statement.{statement}
 use Rattle.payload.proofs.fill_words.Tie as tie
 
 abbrev Inv-loop : tie.InvT-loop
-Inv-loop bytes n area₀ words k₀ area k = Filling (fileWords bytes) area₀ area n k
+Inv-loop bytes n area₀ words k₀ area k = Filling (fileWords bytes) area₀ area (n * n) k
 
 abbrev μ-loop : tie.MeasureT-loop
 μ-loop bytes n area₀ words k₀ area k = n * n - k
@@ -16,7 +16,7 @@ abbrev μ-loop : tie.MeasureT-loop
 loop-holds : tie.Need-loop-holds Inv-loop μ-loop
 loop-holds c =
     let s = c .before .before in
-    none-yet (few-words (s .args .bytes .now) (s .args .n) (s .pre .0)) (file-words-length (s .args .bytes .now) (s .args .n) (s .pre .0)) (s .pre .1)
+    none-yet (file-words-length (s .args .bytes .now) (s .args .n) (s .pre .0)) (s .pre .1)
 
 mul-words : tie.Need-mul-words Inv-loop μ-loop
 mul-words c = omega (arith, few-words (c .before .before .args .bytes .now) (c .before .before .args .n) (c .before .before .pre .0))

@@ -1,0 +1,36 @@
+-- From the questions of saving to its two promises: a refusal leaves every byte, and else the file is written at the start.
+use Prim.Native.Nat.{ℕ, _*_, _≤_}
+use mathlib.Core.List.{List}
+use mathlib.Core.Path.{_≡_, ap, _∙_}
+use lib.ListN.{length}
+use Rattle.definitions.specs.Questions.{pass, refuse}
+use Rattle.definitions.specs.Services.{Answer, given, refused}
+use Rattle.definitions.specs.File.{fileLength}
+use Rattle.definitions.specs.Saving.{sheetFile, saveQuestions, saveAnswer, savedWords}
+use Rattle.answers.specs.Outcome.{ComesTo}
+use Rattle.answers.proofs.Outcome as outcome
+use Rattle.shape.proofs.ShapeQuestions.{save-passed}
+use Rattle.buffer.specs.Pasted.{AtStart}
+use Rattle.saving.proofs.FileBytes.{length-file}
+
+module _ (reading n : ℕ) (words area : List ℕ) {held number : ℕ} (size : length words ≡ held) (asked : ComesTo (saveQuestions reading n held (length area)) number 0 0) where
+  pub not-saved : (number ≡ 0 → ⊥) → {told : Answer ℕ} → told ≡ refused number 0 0 → (told ≡ saveAnswer reading n held (length area)) × (area ≡ savedWords reading n words area)
+  unfolding saveAnswer savedWords
+  not-saved h e =
+      let no : saveQuestions reading n held (length area) ≡ refuse number 0 0 = outcome.refused asked h in
+      (rw no e, rw (size, no))
+
+  module _ (passed : number ≡ 0) where
+    yes : saveQuestions reading n held (length area) ≡ pass
+    yes = outcome.passed asked passed
+
+    -- What the writer asks.
+    pub to-save : (held ≡ n * n) × (n ≤ 32) × (fileLength n ≤ length area)
+    to-save =
+        let p = save-passed reading n held (length area) yes in
+        (p .1, p .0, p .2)
+
+    pub saved : {after : List ℕ} {count : ℕ} → AtStart (sheetFile reading n words) area after count
+        → (given count ≡ saveAnswer reading n held (length area)) × (after ≡ savedWords reading n words area)
+    unfolding saveAnswer savedWords
+    saved w = (rw yes (ap given (w .counted ∙ length-file reading n words (size ∙ to-save .0))), rw (size, yes) (w .bytes))

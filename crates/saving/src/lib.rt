@@ -1,0 +1,80 @@
+// The file of a sheet, written at the start of a lent buffer of bytes (document 02, U1).
+ghost use mathlib.Core.Path.{_≡_};
+ghost use Prim.Native.Nat.{_*_, _≤_};
+ghost use lib.ListN.{length};
+ghost use Rattle.definitions.specs.File.{fileLength};
+ghost use Rattle.definitions.specs.Questions.{pass};
+ghost use Rattle.definitions.specs.Saving.{headBytes, wordBytes, rowBytes, sheetFile, sheetWords};
+ghost use Rattle.definitions.specs.Services.{filled};
+ghost use Rattle.buffer.specs.Pasted.{Room, Written, AtStart};
+use records::put_header;
+use records::put_number;
+
+fn put_head(reading: usize, n: usize, at: usize, out: &mut [u8]) -> usize
+    requires { ⌜ Room (headBytes reading n) at (now out) ⌝ }
+    ensures { λ r. ⌜ Written (headBytes reading n) at (now (out .entry)) (now (out .exit)) r ⌝ }
+{
+    let payload = put_header(4, 1, at, out);
+    let next = put_number(reading as u64, 2, payload, out);
+    put_number(n as u64, 2, next, out)
+}
+
+fn put_words(words: &[u64], at: usize, out: &mut [u8]) -> usize
+    requires { ⌜ Room (wordBytes (now words)) at (now out) ⌝ }
+    ensures { λ r. ⌜ Written (wordBytes (now (words .entry))) at (now (out .entry)) (now (out .exit)) r ⌝ }
+{
+    let mut next = at;
+    let mut k = 0;
+    while k < words.len() {
+        next = put_number(words[k], 8, next, out);
+        k += 1;
+    }
+    next
+}
+
+fn put_row(number: usize, words: &[u64], at: usize, out: &mut [u8]) -> usize
+    requires { ⌜ Room (rowBytes number (now words)) at (now out) ⌝ }
+    ensures { λ r. ⌜ Written (rowBytes number (now (words .entry))) at (now (out .entry)) (now (out .exit)) r ⌝ }
+{
+    let payload = put_header(2 + 8 * words.len(), 2, at, out);
+    let next = put_number(number as u64, 2, payload, out);
+    put_words(words, next, out)
+}
+
+// The whole file of a sheet of words; returns its length.
+pub fn put_sheet(reading: usize, n: usize, words: &[u64], out: &mut [u8]) -> usize
+    requires { ⌜ (length (now words) ≡ n * n) × (n ≤ 32) × (fileLength n ≤ length (now out)) ⌝ }
+    ensures { λ r. ⌜ AtStart (sheetFile reading n (now (words .entry))) (now (out .entry)) (now (out .exit)) r ⌝ }
+{
+    let mut at = put_head(reading, n, 0, out);
+    let mut i = 0;
+    while i < n {
+        let first = i * n;
+        at = put_row(i + 1, &words[first..first + n], at, out);
+        i += 1;
+    }
+    at
+}
+
+// The 64-bit words of a sheet's numbers, at the start of an area of words.
+fn to_words(sheet: &[f64], words: &mut [u64])
+    requires { ⌜ length (now sheet) ≤ length (now words) ⌝ }
+    ensures { λ _. ⌜ now (words .exit) ≡ filled pass (sheetWords (now (sheet .entry))) (now (words .entry)) ⌝ }
+{
+    let mut k = 0;
+    while k < sheet.len() {
+        words[k] = rounding::to_word(sheet[k]);
+        k += 1;
+    }
+}
+
+// The whole file of a sheet of numbers, each by its bits; returns its length.
+pub fn put_numbers(reading: usize, n: usize, sheet: &[f64], out: &mut [u8]) -> usize
+    requires { ⌜ (length (now sheet) ≡ n * n) × (n ≤ 32) × (fileLength n ≤ length (now out)) ⌝ }
+    ensures { λ r. ⌜ AtStart (sheetFile reading n (sheetWords (now (sheet .entry)))) (now (out .entry)) (now (out .exit)) r ⌝ }
+{
+    let mut words = [0u64; 1024];
+    to_words(sheet, &mut words);
+    let held = sheet.len();
+    put_sheet(reading, n, &words[..held], out)
+}
