@@ -5,19 +5,12 @@ use mathlib.Core.Path.{_≡_, refl, sym, ap, _∙_}
 use Rattle.definitions.specs.Questions.{Asked, pass, refuse}
 use Rattle.definitions.specs.Services.{answer, given, refused, filled}
 use Rattle.definitions.specs.File.{Head, headReading, headStages, fileQuestions, fileAnswer}
+use Rattle.steps.proofs.QuestionLaws.{given-passes, given-is}
 use Rattle.answers.specs.declared.Loaded.{Loaded}
 use Rattle.answers.specs.declared.Loaded.the-variants.{Sheet, Refused}
 use Rattle.answers.specs.Answers.{headGiven}
 use Rattle.payload.specs.SheetFile.{SheetFile}
 use Rattle.payload.proofs.FileWords.{room-held}
-
-given-passes : (asked : Asked) (head due : Head) → given head ≡ answer asked due → asked ≡ pass
-given-passes pass head due e = refl
-given-passes (refuse number row column) head due e = cc
-
-given-is : (asked : Asked) (head due : Head) → given head ≡ answer asked due → head ≡ due
-given-is pass head due e = cc
-given-is (refuse number row column) head due e = cc
 
 refused-keeps : {A : Type 0} (asked : Asked) (due : Head) (number row column : ℕ) (new area : List A) → refused number row column ≡ answer asked due → area ≡ filled asked new area
 refused-keeps pass due number row column new area e = cc

@@ -21,6 +21,7 @@ use Rattle.file_questions.proofs.HeadAndRows.{head-reading, head-stages
 
 -- What a good head says of its numbers.
 pub record Read (bytes : List ℕ) : Type 0 where
+  pub kind : recordKind bytes ≡ 1
   pub size : recordLength bytes ≡ 4
   pub reading : (eqb (headReading bytes) 1 || eqb (headReading bytes) 2) ≡ true
   pub least : 1 ≤ headStages bytes
@@ -36,19 +37,33 @@ head-read bytes e =
     let most = leb (headStages bytes) 32 in
     let upToLeast = and-first (kind && size && reading && least) most e in
     let upToReading = and-first (kind && size && reading) least upToLeast in
+    let upToSize = and-first (kind && size) reading upToReading in
     record {
-      size = eqb-true (recordLength bytes) 4 (and-second kind size (and-first (kind && size) reading upToReading));
+      kind = eqb-true (recordKind bytes) 1 (and-first kind size upToSize);
+      size = eqb-true (recordLength bytes) 4 (and-second kind size upToSize);
       reading = and-second (kind && size) reading upToReading;
       least = leb-true 1 (headStages bytes) (and-second (kind && size && reading) least upToLeast);
       most = leb-true (headStages bytes) 32 (and-second (kind && size && reading && least) most e);
     }
 
-pub row-read : (n due : ℕ) (bytes : List ℕ) → goodRow n due bytes ≡ true → recordLength bytes ≡ 2 + 8 * n
+-- What a good row says of its numbers.
+pub record RowRead (n due : ℕ) (bytes : List ℕ) : Type 0 where
+  pub kind : recordKind bytes ≡ 2
+  pub size : recordLength bytes ≡ 2 + 8 * n
+  pub number : little 2 (payload bytes) ≡ due
+
+pub row-read : (n due : ℕ) (bytes : List ℕ) → goodRow n due bytes ≡ true → RowRead n due bytes
 unfolding goodRow
 row-read n due bytes e =
     let kind = eqb (recordKind bytes) 2 in
     let size = eqb (recordLength bytes) (2 + 8 * n) in
-    eqb-true (recordLength bytes) (2 + 8 * n) (and-second kind size (and-first (kind && size) (eqb (little 2 (payload bytes)) due) e))
+    let number = eqb (little 2 (payload bytes)) due in
+    let upToSize = and-first (kind && size) number e in
+    record {
+      kind = eqb-true (recordKind bytes) 2 (and-first kind size upToSize);
+      size = eqb-true (recordLength bytes) (2 + 8 * n) (and-second kind size upToSize);
+      number = eqb-true (little 2 (payload bytes)) due (and-second (kind && size) number e);
+    }
 
 -- The questions that are left when the rows from the one due, which starts at `at`, have yet to be asked.
 unfoldable pub rowsLeft : List ℕ → ℕ → ℕ → ℕ → ℕ → Asked

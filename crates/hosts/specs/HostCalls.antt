@@ -13,6 +13,7 @@ use Rattle.definitions.specs.Questions.{pass, tableQuestions, entryQuestions}
 use Rattle.definitions.specs.Accuracy.{Accurate}
 use Rattle.definitions.specs.Services.{Answer, tableAnswer, tableArea, entryAnswer}
 use Rattle.definitions.specs.File.{Head, fileAnswer}
+use Rattle.definitions.specs.Saving.{saveAnswer}
 use Rattle.definitions.specs.Dwell.{fileText}
 use Rattle.buffer.specs.Pasted.{AtStart}
 use Rattle.out_places.specs.OutPlaces.{Refusal, handed}
@@ -44,6 +45,17 @@ pub record FileCall {A : Type 0} (filledArea : List ℕ → List A → List A) (
     (reading reading' n n' row column returned : ℕ) : Type 0 where
   pub head : HeadCall (fileAnswer bytes (length before)) reading reading' n n' row column returned
   pub area : after ≡ filledArea bytes before
+
+-- What saving hands over and tells: the place for the file's length before and after, and the same.
+pub record LengthCall (answer : Answer ℕ) (size size' row column returned : ℕ) : Type 0 where
+  pub told : Refusal answer returned row column
+  pub gives : size' ≡ handed (λ length. length) answer size
+
+-- Saving, of numbers (`savedNumbers`) or of words (`savedWords`): that, and the lent bytes before and after.
+pub record SaveCall {A : Type 0} (savedArea : ℕ → ℕ → List A → List ℕ → List ℕ) (reading n : ℕ) (sheet : List A)
+    (before after : List ℕ) (size size' row column returned : ℕ) : Type 0 where
+  pub length : LengthCall (saveAnswer reading n (length sheet) (length before)) size size' row column returned
+  pub area : after ≡ savedArea reading n sheet before
 
 -- The text of a report for an area of so many bytes: what dwell prints for the file, and nothing where the area is too short.
 unfoldable pub reportText : List ℕ → ℕ → List ℕ

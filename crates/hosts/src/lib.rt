@@ -3,9 +3,11 @@
 // places that the caller lends; a refused call leaves these as they were. No call has a `requires`.
 // `include/yulanbowls.h` declares them.
 ghost use Rattle.definitions.specs.File.{fileNumberArea, fileWordArea};
-ghost use Rattle.answers.specs.Answers.{headGiven};
-ghost use Rattle.hosts.specs.HostCalls.{TableCall, EntryCall, HeadCall, FileCall, ReportCall};
+ghost use Rattle.definitions.specs.Saving.{savedNumbers, savedWords};
+ghost use Rattle.answers.specs.Answers.{headGiven, savedGiven};
+ghost use Rattle.hosts.specs.HostCalls.{TableCall, EntryCall, HeadCall, FileCall, LengthCall, SaveCall, ReportCall};
 use answers::Loaded;
+use answers::Saved;
 
 // The whole table in the first n × n places of the answer area, and its allowance.
 #[no_mangle]
@@ -100,6 +102,51 @@ pub extern "C" fn yulanbowls_read_words(
     ensures { λ r. ⌜ FileCall fileWordArea (now (bytes .entry)) (now (area .entry)) (now (area .exit)) (now (reading .entry)) (now (reading .exit)) (now (n .entry)) (now (n .exit)) (now (row .exit)) (now (column .exit)) r ⌝ }
 {
     hand_over(file::read_words(bytes, area), reading, n, row, column)
+}
+
+// What saving answers, in the out places of a call.
+fn hand_length(saved: Saved, length: &mut usize, row: &mut usize, column: &mut usize) -> usize
+    ensures { λ r. ⌜ LengthCall (savedGiven saved) (now (length .entry)) (now (length .exit)) (now (row .exit)) (now (column .exit)) r ⌝ }
+{
+    let file = out_places::saved(saved);
+    *row = file.row;
+    *column = file.column;
+    if file.accepted {
+        *length = file.length;
+    }
+    file.number
+}
+
+// A sheet of numbers as a file in the first bytes of the area, each number by its bits.
+#[no_mangle]
+pub extern "C" fn yulanbowls_save_numbers(
+    reading: usize,
+    n: usize,
+    sheet: &[f64],
+    bytes: &mut [u8],
+    length: &mut usize,
+    row: &mut usize,
+    column: &mut usize,
+) -> usize
+    ensures { λ r. ⌜ SaveCall savedNumbers reading n (now (sheet .entry)) (now (bytes .entry)) (now (bytes .exit)) (now (length .entry)) (now (length .exit)) (now (row .exit)) (now (column .exit)) r ⌝ }
+{
+    hand_length(file::save_numbers(reading, n, sheet, bytes), length, row, column)
+}
+
+// A sheet of 64-bit words as a file in the first bytes of the area; every bit is kept.
+#[no_mangle]
+pub extern "C" fn yulanbowls_save_words(
+    reading: usize,
+    n: usize,
+    sheet: &[u64],
+    bytes: &mut [u8],
+    length: &mut usize,
+    row: &mut usize,
+    column: &mut usize,
+) -> usize
+    ensures { λ r. ⌜ SaveCall savedWords reading n (now (sheet .entry)) (now (bytes .entry)) (now (bytes .exit)) (now (length .entry)) (now (length .exit)) (now (row .exit)) (now (column .exit)) r ⌝ }
+{
+    hand_length(file::save_words(reading, n, sheet, bytes), length, row, column)
 }
 
 // The text that dwell prints for a sheet file, at the start of the area; returns its length. An area

@@ -1,10 +1,11 @@
 // What a service answers as plain numbers, for the out places of a caller in C, who has no enums: whether the
 // call is accepted; the refusal's number, row and column, 0 where there is none; and what is handed over, which
 // is left open where the call is refused.
-ghost use Rattle.answers.specs.Answers.{tableGiven, entryGiven, headGiven};
+ghost use Rattle.answers.specs.Answers.{tableGiven, entryGiven, headGiven, savedGiven};
 ghost use Rattle.out_places.specs.OutPlaces.{Refusal, ValueOut, HeadOut};
 use answers::Entry;
 use answers::Loaded;
+use answers::Saved;
 use answers::Table;
 
 pub struct TableNumbers {
@@ -105,6 +106,39 @@ pub fn head(told: Loaded) -> HeadNumbers
             column,
             reading: 0,
             n: 0,
+        },
+    }
+}
+
+pub struct SavedNumbers {
+    pub accepted: bool,
+    pub number: usize,
+    pub row: usize,
+    pub column: usize,
+    pub length: usize,
+}
+
+pub fn saved(told: Saved) -> SavedNumbers
+    ensures { λ r. ⌜ Refusal (savedGiven told) (r .number) (r .row) (r .column) × ValueOut (savedGiven told) (r .accepted) (r .length) ⌝ }
+{
+    match told {
+        Saved::File { length: bytes } => SavedNumbers {
+            accepted: true,
+            number: 0,
+            row: 0,
+            column: 0,
+            length: bytes,
+        },
+        Saved::Refused {
+            number,
+            row,
+            column,
+        } => SavedNumbers {
+            accepted: false,
+            number,
+            row,
+            column,
+            length: 0,
         },
     }
 }

@@ -1,5 +1,6 @@
 -- The numbers of a file that is accepted: where the k-th word stands, and that the file holds it.
 use Prim.Native.Nat.{ℕ, zero, suc, _+_, _-_, _*_, _/_, _≤_, _<_}
+use mathlib.Core.Bool.{true}
 use mathlib.Core.List.{List, _++_}
 use borrow.Author.Tests.{eqb-true, leb-true}
 use lib.Dec.{leb, eqb}
@@ -16,10 +17,10 @@ use Rattle.definitions.specs.File.{little, recordLength, payload, rest, wholeRe
 use Rattle.steps.proofs.QuestionLaws.{then-first, then-next, ask-yes}
 use Rattle.payload.specs.SheetFile.{SheetFile}
 use Rattle.records.proofs.Records.{payload-at, whole-room}
-use Rattle.file_questions.proofs.Judging.{head-read, row-read, few-squared}
+use Rattle.file_questions.proofs.Judging.{Read, head-read, RowRead, row-read, few-squared}
 
 -- m words of 8 bytes.
-words-length : (m : ℕ) (bytes : List ℕ) → length (words m bytes) ≡ m
+pub words-length : (m : ℕ) (bytes : List ℕ) → length (words m bytes) ≡ m
 unfolding words
 words-length zero bytes = refl
 words-length (suc m) bytes = ap suc (words-length m (drop 8 bytes))
@@ -52,13 +53,14 @@ row-words-length n (suc m) bytes =
     length-append (words n (drop 2 (payload bytes))) (rowWords n m (rest bytes)) ∙ omega arith
 
 -- What the questions of m + 1 rows say where all are answered yes.
-record RowPassed (n due m : ℕ) (bytes : List ℕ) : Type 0 where
-  size : recordLength bytes ≡ 2 + 8 * n
-  inside : 8 * n + 8 ≤ length bytes
-  ends : rest bytes ≡ drop (8 * n + 8) bytes
-  later : rowQuestions n (suc due) m (rest bytes) ≡ pass
+pub record RowPassed (n due m : ℕ) (bytes : List ℕ) : Type 0 where
+  pub whole : wholeRecord bytes ≡ true
+  pub read : RowRead n due bytes
+  pub inside : 8 * n + 8 ≤ length bytes
+  pub ends : rest bytes ≡ drop (8 * n + 8) bytes
+  pub later : rowQuestions n (suc due) m (rest bytes) ≡ pass
 
-row-passed : (n due m : ℕ) (bytes : List ℕ) → rowQuestions n due (suc m) bytes ≡ pass → RowPassed n due m bytes
+pub row-passed : (n due m : ℕ) (bytes : List ℕ) → rowQuestions n due (suc m) bytes ≡ pass → RowPassed n due m bytes
 unfolding rowQuestions rest
 row-passed n due m bytes e =
     let whole = ask (wholeRecord bytes) 11 due 0 in
@@ -66,9 +68,15 @@ row-passed n due m bytes e =
     let later = rowQuestions n (suc due) m (rest bytes) in
     let is-whole = is-true (wholeRecord bytes) (ask-yes (wholeRecord bytes) 11 due 0 (then-first whole (good then later) e)) in
     let behind = then-next whole (good then later) e in
-    let size = row-read n due bytes (is-true (goodRow n due bytes) (ask-yes (goodRow n due bytes) 13 due 0 (then-first good later behind))) in
+    let read = row-read n due bytes (is-true (goodRow n due bytes) (ask-yes (goodRow n due bytes) 13 due 0 (then-first good later behind))) in
     let end : 6 + recordLength bytes ≡ 8 * n + 8 = omega arith in
-    record { size = size; inside = omega (arith, whole-room bytes 0 is-whole); ends = ap (λ i. drop i bytes) end; later = then-next good later behind }
+    record {
+      whole = is-whole;
+      read = read;
+      inside = omega (arith, whole-room bytes 0 is-whole);
+      ends = ap (λ i. drop i bytes) end;
+      later = then-next good later behind;
+    }
 
 rows-size : (n due m : ℕ) (bytes : List ℕ) → rowQuestions n due m bytes ≡ pass → length bytes ≡ m * (8 * n + 8)
 unfolding rowQuestions
@@ -103,20 +111,22 @@ row-words-at n due (suc m) k bytes e p h =
     let row = row-passed n due m bytes e in
     let later = rowWords n m (rest bytes) in
     elim (decLt k n) [
-      | yes l ↦ in-row n k bytes later (row .size) l
+      | yes l ↦ in-row n k bytes later (row .read .size) l
       | no l ↦ past-row n k bytes later p (omega arith) (rw (← row .ends) (row-words-at n (suc due) m (k - n) (rest bytes) (row .later) p (omega arith)))
     ]
 
 -- What the questions say of a file that is accepted.
-record FilePassed (bytes : List ℕ) (n room : ℕ) : Type 0 where
-  least : 1 ≤ n
-  most : n ≤ 32
-  inside : 10 ≤ length bytes
-  ends : rest bytes ≡ drop 10 bytes
-  rows : rowQuestions n 1 n (rest bytes) ≡ pass
-  held : question4 (n * n) room ≡ pass
+pub record FilePassed (bytes : List ℕ) (n room : ℕ) : Type 0 where
+  pub whole : wholeRecord bytes ≡ true
+  pub read : Read bytes
+  pub least : 1 ≤ n
+  pub most : n ≤ 32
+  pub inside : 10 ≤ length bytes
+  pub ends : rest bytes ≡ drop 10 bytes
+  pub rows : rowQuestions n 1 n (rest bytes) ≡ pass
+  pub held : question4 (n * n) room ≡ pass
 
-file-passed : (bytes : List ℕ) (n : ℕ) (file : SheetFile bytes n) → FilePassed bytes n (file .room)
+pub file-passed : (bytes : List ℕ) (n : ℕ) (file : SheetFile bytes n) → FilePassed bytes n (file .room)
 unfolding fileQuestions rest
 file-passed bytes n file =
     let stages = headStages bytes in
@@ -134,6 +144,8 @@ file-passed bytes n file =
     let pass-room = then-next (question2 stages) room from-size in
     let end : 6 + recordLength bytes ≡ 10 = omega arith in
     record {
+      whole = is-whole;
+      read = read;
       least = rw (file .stages) at (read .least);
       most = rw (file .stages) at (read .most);
       inside = omega (arith, whole-room bytes 0 is-whole);

@@ -1,3 +1,3 @@
-mod Little
+pub mod Little
 pub mod Records
 pub mod LittleBytes

@@ -14,7 +14,7 @@ one-more : (bytes : List ℕ) (at w : ℕ) → at < length bytes → little (suc
 unfolding little
 one-more bytes at w h = rw (drop-cons bytes at 0 h)
 
-below : (w : ℕ) (bytes : List ℕ) → ((i : ℕ) → getD bytes i 0 < 256) → little w bytes < 256 ^ w
+pub below : (w : ℕ) (bytes : List ℕ) → ((i : ℕ) → getD bytes i 0 < 256) → little w bytes < 256 ^ w
 unfolding little
 below zero bytes b = lit< tt
 below (suc w) [] b = one-le-pow (suc w) 256 (lit< tt)

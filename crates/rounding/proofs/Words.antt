@@ -13,7 +13,7 @@ use Rattle.definitions.specs.Numbers.{0·0, 1·0, smallest}
 abbrev infinity : ℕ
 infinity = 0x7ff0_0000_0000_0000
 
-nan-value : (x : Float) → T (isNan x) → x ≡ nan
+pub nan-value : (x : Float) → T (isNan x) → x ≡ nan
 unfolding isNan
 nan-value nan t = refl
 nan-value (inf s) t = absurd t

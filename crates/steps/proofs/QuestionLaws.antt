@@ -7,6 +7,7 @@ use lib.Dec.{T}
 use Rattle.exact.specs.Chains.{In}
 use Rattle.exact.proofs.Sums.{none-in, on-range}
 use lib.Ieee.Bits.{is-true}
+use Rattle.definitions.specs.Services.{given, answer}
 use Rattle.definitions.specs.Questions.{Asked, pass, refuse, _then_, ask, askRow, askRows, askStages}
 
 -- An answer is a pass or a refusal.
@@ -25,6 +26,15 @@ then-first (refuse n i j) b e = e
 pub then-next : (a b : Asked) → a then b ≡ pass → b ≡ pass
 then-next pass b e = e
 then-next (refuse n i j) b e = cc
+
+-- What an answer that hands something over says of its questions.
+pub given-passes : {A : Type 0} (asked : Asked) (value due : A) → given value ≡ answer asked due → asked ≡ pass
+given-passes pass value due e = refl
+given-passes (refuse number row column) value due e = cc
+
+pub given-is : {A : Type 0} (asked : Asked) (value due : A) → given value ≡ answer asked due → value ≡ due
+given-is pass value due e = cc
+given-is (refuse number row column) value due e = cc
 
 pub ask-yes : (b : Bool) (n i j : ℕ) → ask b n i j ≡ pass → T b
 ask-yes true n i j e = tt

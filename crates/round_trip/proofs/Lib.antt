@@ -1,0 +1,6 @@
+mod Bytes
+mod RecordBytes
+mod Loading
+mod SavingAgain
+mod NumberWords
+pub mod RoundTrip

@@ -1,0 +1,61 @@
+-- "Loading a saved file yields equal numbers in every bit, NaN included; saving a loaded file yields its bytes" (document 02, U1).
+use Prim.Native.Nat.{ℕ, _*_, _^_, _≤_, _<_}
+use mathlib.Core.Bool.{true}
+use mathlib.Core.List.{List}
+use mathlib.Core.Path.{_≡_}
+use lib.ListN.{length, take, getD}
+use lib.Ieee.{Float, binary64, toBits, nan, nanBits}
+use Rattle.definitions.specs.Accuracy.{Binary64}
+use Rattle.definitions.specs.Services.{given}
+use Rattle.definitions.specs.File.{Head, fileAnswer, fileWords, fileNumbers}
+use Rattle.definitions.specs.Saving.{saveAnswer, savedWords, savedNumbers}
+
+-- The contents of lent bytes and of lent 64-bit words: lists of whole numbers below 256, and below 2^64.
+pub record Below (limit : ℕ) (list : List ℕ) : Type 0 where
+  pub at : (i : ℕ) → i < length list → getD list i 0 < limit
+
+-- The file that a call left in its bytes: as many as it hands over.
+-- What loading it hands over and fills in with room enough: the same reading and n, and the same words.
+unfoldable pub LoadsWhatWasSaved : Type 0
+LoadsWhatWasSaved =
+    (reading n : ℕ) (words area : List ℕ) (size room : ℕ)
+    → Below (2 ^ 64) words
+    → saveAnswer reading n (length words) (length area) ≡ given size
+    → n * n ≤ room
+    → let file = take size (savedWords reading n words area) in
+      (fileAnswer file room ≡ given (record { reading = reading; n = n })) × (fileWords file ≡ words)
+
+-- The same for a sheet of numbers. The model has one NaN, and it is equal to itself here.
+unfoldable pub LoadsNumbersThatWereSaved : Type 0
+LoadsNumbersThatWereSaved =
+    (reading n : ℕ) (sheet : List Float) (area : List ℕ) (size room : ℕ)
+    → Binary64 sheet
+    → saveAnswer reading n (length sheet) (length area) ≡ given size
+    → n * n ≤ room
+    → let file = take size (savedNumbers reading n sheet area) in
+      (fileAnswer file room ≡ given (record { reading = reading; n = n })) × (fileNumbers file ≡ sheet)
+
+-- Saving what was loaded, into an area that holds as many bytes as the file: the call hands over the file's length, and the
+-- area then begins with its bytes. On words for every file that loads.
+unfoldable pub SavesWhatWasLoaded : Type 0
+SavesWhatWasLoaded =
+    (bytes area : List ℕ) (head : Head) (room : ℕ)
+    → Below 256 bytes
+    → fileAnswer bytes room ≡ given head
+    → length bytes ≤ length area
+    → (saveAnswer (head .reading) (head .n) (length (fileWords bytes)) (length area) ≡ given (length bytes))
+    × (take (length bytes) (savedWords (head .reading) (head .n) (fileWords bytes) area) ≡ bytes)
+
+-- On numbers for files whose NaN words are the one that is written: a number keeps nothing of another NaN pattern.
+pub record OneNan (words : List ℕ) : Type 0 where
+  pub at : (i : ℕ) → i < length words → nanBits binary64 (getD words i 0) ≡ true → getD words i 0 ≡ toBits binary64 nan
+
+unfoldable pub SavesNumbersThatWereLoaded : Type 0
+SavesNumbersThatWereLoaded =
+    (bytes area : List ℕ) (head : Head) (room : ℕ)
+    → Below 256 bytes
+    → OneNan (fileWords bytes)
+    → fileAnswer bytes room ≡ given head
+    → length bytes ≤ length area
+    → (saveAnswer (head .reading) (head .n) (length (fileNumbers bytes)) (length area) ≡ given (length bytes))
+    × (take (length bytes) (savedNumbers (head .reading) (head .n) (fileNumbers bytes) area) ≡ bytes)
