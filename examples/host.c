@@ -1,5 +1,6 @@
 /*
- * Prints the table of a sheet file by the proved library: host FILE, or host < FILE.
+ * Prints the table of a sheet file by the proved library: host FILE, or host < FILE. With host FILE COPY the
+ * sheet that was loaded is saved as COPY too.
  *
  *   rt staticlib hosts
  *   cc -std=c99 -Wall -Wextra -pedantic -I include examples/host.c target/staticlib/libhosts.a -o target/host
@@ -63,14 +64,40 @@ static int print_sheet(size_t reading, size_t n, const double *sheet)
     return print_last(reading, n, sheet);
 }
 
+static int save_sheet(size_t reading, size_t n, const double *sheet, const char *name)
+{
+    uint8_t bytes[YULANBOWLS_FILE_BYTES];
+    size_t length;
+    struct refusal no;
+    FILE *to;
+    int done;
+
+    no.number = yulanbowls_save_numbers(reading, n, sheet, n * n, bytes, sizeof bytes, &length, &no.row,
+                                        &no.column);
+    if (no.number != 0) {
+        return print_refusal(&no);
+    }
+    if ((to = fopen(name, "wb")) == NULL) {
+        perror(name);
+        return 2;
+    }
+    done = fwrite(bytes, 1, length, to) == length;
+    if (fclose(to) != 0 || !done) {
+        perror(name);
+        return 2;
+    }
+    return 0;
+}
+
 /* One byte more than the longest file is read, so that a longer one is noticed. */
-static int print_file(FILE *from)
+static int print_file(FILE *from, const char *copy)
 {
     uint8_t bytes[YULANBOWLS_FILE_BYTES + 1];
     double sheet[YULANBOWLS_NUMBERS];
     size_t reading, n;
     struct refusal no;
     size_t length = fread(bytes, 1, sizeof bytes, from);
+    int status = 0;
 
     if (ferror(from)) {
         perror("host");
@@ -81,7 +108,10 @@ static int print_file(FILE *from)
     if (no.number != 0) {
         return print_refusal(&no);
     }
-    return print_sheet(reading, n, sheet);
+    if (copy != NULL) {
+        status = save_sheet(reading, n, sheet, copy);
+    }
+    return status != 0 ? status : print_sheet(reading, n, sheet);
 }
 
 int main(int count, char **words)
@@ -89,15 +119,15 @@ int main(int count, char **words)
     FILE *from = stdin;
     int status;
 
-    if (count > 2) {
-        fprintf(stderr, "usage: host [FILE]\n");
+    if (count > 3) {
+        fprintf(stderr, "usage: host [FILE [COPY]]\n");
         return 2;
     }
-    if (count == 2 && (from = fopen(words[1], "rb")) == NULL) {
+    if (count >= 2 && (from = fopen(words[1], "rb")) == NULL) {
         perror(words[1]);
         return 2;
     }
-    status = print_file(from);
+    status = print_file(from, count == 3 ? words[2] : NULL);
     fclose(from);
     return status;
 }

@@ -21,7 +21,8 @@
  *        1  the reading is neither 1 nor 2                                        0, 0
  *        2  n is below 1 or above 32                                              0, 0
  *        3  the sheet has more or fewer than n * n numbers                        0, 0
- *        4  the area has room for fewer than n * n numbers                        0, 0
+ *        4  the area has room for fewer than n * n numbers, or, in saving,        0, 0
+ *           for fewer than 10 + n * (8n + 8) bytes
  *        5  a stage that is asked for is below 1 or above n                       0, 0
  *        6  a number is an infinity or a NaN                                      of the first such number
  *        7  a number has the wrong sign: off the diagonal it is above zero,       of the first such number
@@ -37,8 +38,8 @@
  *       13  a record is not the row that is due, of n numbers                     of the row due, 0
  *       14  bytes follow the last row                                             0, 0
  *
- *   yulanbowls_table can return 1 to 4 and 6 to 10, yulanbowls_entry 1 to 3 and 5 to 10, and the two readers
- *   of files 4 and 11 to 14.
+ *   yulanbowls_table can return 1 to 4 and 6 to 10, yulanbowls_entry 1 to 3 and 5 to 10, the two readers of
+ *   files 4 and 11 to 14, and the two writers 1 to 4.
  *
  * What the caller owes, in every call (nothing tests it)
  *   - Each pointer is not null, is aligned for its type, and points to as many numbers or bytes as the
@@ -104,6 +105,25 @@ size_t yulanbowls_read_numbers(const uint8_t *bytes, size_t bytes_length,
 size_t yulanbowls_read_words(const uint8_t *bytes, size_t bytes_length,
                              uint64_t *area, size_t area_length,
                              size_t *reading, size_t *n, size_t *row, size_t *column);
+
+/*
+ * Saves a sheet as a file in memory. Accepted: the first `*length` bytes of `bytes` are the file, of
+ * 10 + n * (8n + 8) bytes, so at most YULANBOWLS_FILE_BYTES, and later bytes are unchanged. The numbers are
+ * not judged: a sheet with a NaN, a wrong sign or a stage that nobody leaves is saved too. Read back, the file
+ * gives the same reading, n and numbers. Every number keeps its bits, but a NaN is written as
+ * 7ff8000000000000.
+ */
+size_t yulanbowls_save_numbers(size_t reading, size_t n,
+                               const double *sheet, size_t sheet_length,
+                               uint8_t *bytes, size_t bytes_length,
+                               size_t *length, size_t *row, size_t *column);
+
+/* The same from 64-bit words, which keep the bits of every number, of a NaN too: what
+ * yulanbowls_read_words has read is saved as the bytes that it was read from. */
+size_t yulanbowls_save_words(size_t reading, size_t n,
+                             const uint64_t *sheet, size_t sheet_length,
+                             uint8_t *bytes, size_t bytes_length,
+                             size_t *length, size_t *row, size_t *column);
 
 /*
  * The text that the dwell program prints for a sheet file: its table or its refusal. The text stands at the

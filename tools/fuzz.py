@@ -189,6 +189,28 @@ def reader(name: str) -> Callable[[Calls, random.Random], int]:
     return call
 
 
+def saved_sheet(rng: random.Random) -> Sheet:
+    """A sheet to save: one that may be judged otherwise, or any words, NaN patterns among them."""
+    sheet = some_sheet(rng)
+    if rng.random() < 0.5:
+        sheet.words = [rng.choice([rng.getrandbits(64), 0x7ff0000000000001, 0xfff8000000000000, 0x7ff8000000000000, 2 ** 63])
+                       for _ in sheet.words]
+    return sheet
+
+
+def writer(name: str) -> Callable[[Calls, random.Random], int]:
+    """One of the two writers of files."""
+    def call(calls: Calls, rng: random.Random) -> int:
+        sheet = saved_sheet(rng)
+        n = min(sheet.n, 33)
+        needed = 10 + n * (8 * n + 8)
+        kind = rng.random()
+        room = (rng.choice([0, 9, needed - 1, rng.randrange(needed)]) if kind < 0.06
+                else needed + (0 if kind < 0.5 else rng.choice([1, 2, 7, 40, 9000])))
+        return calls.save(name, sheet.reading, sheet.n, sheet.words, room)[0]
+    return call
+
+
 def call_report(calls: Calls, rng: random.Random) -> int:
     """A report; the refusal that its text tells."""
     room = TEXT_BYTES + rng.choice([0, 0, 1, 100]) if rng.random() < 0.98 else rng.choice([0, 1, TEXT_BYTES - 1])
@@ -202,6 +224,8 @@ EXPORTS: dict[str, tuple[Callable[[Calls, random.Random], int], set[int]]] = {
     "yulanbowls_entry": (call_entry, {1, 2, 3, 5, 6, 7, 8, 9, 10}),
     "yulanbowls_read_numbers": (reader("yulanbowls_read_numbers"), {4, 11, 12, 13, 14}),
     "yulanbowls_read_words": (reader("yulanbowls_read_words"), {4, 11, 12, 13, 14}),
+    "yulanbowls_save_numbers": (writer("yulanbowls_save_numbers"), {1, 2, 3, 4}),
+    "yulanbowls_save_words": (writer("yulanbowls_save_words"), {1, 2, 3, 4}),
     "yulanbowls_report": (call_report, {6, 7, 8, 9, 10, 11, 12, 13, 14}),
 }
 

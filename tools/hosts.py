@@ -21,7 +21,7 @@ from typing import Optional, Sequence, Union
 sys.dont_write_bytecode = True
 sys.path.insert(0, str(Path(__file__).resolve().parent))
 import reference  # noqa: E402
-from reference import Loaded, Refused, Seconds, Table, bits_of, number_of  # noqa: E402
+from reference import Loaded, Refused, Saved, Seconds, Table, bits_of, number_of  # noqa: E402
 
 ROOT = Path(__file__).resolve().parent.parent
 HEADER = ROOT / "include" / "yulanbowls.h"
@@ -207,6 +207,22 @@ class Calls:
                 if number_of(word) != number_of(word) and number_of(after[at]) != number_of(after[at]):
                     after[at] = word
         self.same(packed(after), packed(words) + area.content[8 * len(words):], "area")
+
+    def save(self, name: str, reading: int, n: int, words: Sequence[int], room: int) -> Told:
+        """A sheet, given by its 64-bit words, saved by one of the two writers into an area of so many bytes."""
+        sheet, area = Lent(packed(words)), Lent(self.rng.randbytes(room), 1)
+        length, row, column = self.place(), self.place(), self.place()
+        number = self.library.call(name, reading=reading, n=n, sheet=sheet, bytes=area, length=length, row=row,
+                                   column=column)
+        if name == "yulanbowls_save_numbers":
+            answer = reference.save_numbers(reading, n, [number_of(word) for word in words], room)
+        else:
+            answer = reference.save(reading, n, words, room)
+        data = answer.data if isinstance(answer, Saved) else b""
+        self.handed(length, len(data) if isinstance(answer, Saved) else None, "length")
+        self.same(area.after(), data + area.content[len(data):], "bytes")
+        self.same(sheet.after(), sheet.content, "sheet")
+        return self.refusal(number, row, column, answer)
 
     def report(self, data: bytes, room: int) -> bytes:
         """The report on a file in an area of so many bytes; the text is handed back."""

@@ -82,6 +82,14 @@ def number_of(word: int) -> float:
     return struct.unpack("<d", struct.pack("<Q", word))[0]
 
 
+ONE_NAN = 0x7ff8000000000000    # the word of every NaN that is a number: it keeps none of its own bits
+
+
+def word_of(number: float) -> int:
+    """The word as which a number is saved."""
+    return ONE_NAN if number != number else bits_of(number)
+
+
 # ==== One step: one rounding and its range test (01, question 10) ====
 
 class OutOfRange(Exception):
@@ -434,6 +442,11 @@ def save(reading: int, n: int, words: Sequence[int], area_length: int) -> Union[
     refusal = ask_reading(reading) or ask_size(n) or ask_sheet_length(n, words)
     refusal = refusal or ask_area(10 + n * (8 * n + 8), area_length)
     return refusal or Saved(make_file_words(reading, n, words))
+
+
+def save_numbers(reading: int, n: int, sheet: Sequence[float], area_length: int) -> Union[Saved, Refused]:
+    """Saving a sheet of numbers: each by its bits, and a NaN as the one NaN."""
+    return save(reading, n, [word_of(number) for number in sheet], area_length)
 
 
 def table_of_stream(stream: bytes) -> Union[tuple[Loaded, Table], Refused]:
@@ -1098,6 +1111,9 @@ def test_saving(check: Checks, rng: random.Random) -> None:
             check.equal("loaded again", load(saved.data, n * n), Loaded(reading, n, words))
             check.equal("saved again", save(reading, n, load(saved.data, n * n).words, size + 5), saved)
             check.equal("one byte too few", save(reading, n, words, size - 1), Refused(4))
+            numbers = load(saved.data, n * n).numbers
+            again = load(save_numbers(reading, n, numbers, size).data, n * n).words
+            check.equal("numbers, NaN as one", again, [ONE_NAN if x != x else word for x, word in zip(numbers, words)])
 
 
 def test_dwell(check: Checks) -> None:

@@ -73,6 +73,12 @@ class HostTest(unittest.TestCase):
         self.assertEqual(self.calls.read("yulanbowls_read_words", data, room), answer)
         return answer
 
+    def save(self, reading: int, n: int, words: Sequence[int], room: int) -> Told:
+        """A sheet saved as numbers and as words, each in so many bytes."""
+        answer = self.calls.save("yulanbowls_save_numbers", reading, n, words, room)
+        self.assertEqual(self.calls.save("yulanbowls_save_words", reading, n, words, room), answer)
+        return answer
+
     def report(self, data: bytes, room: int = TEXT_BYTES) -> bytes:
         """The report on a file in an area of so many bytes."""
         return self.calls.report(data, room)
@@ -255,6 +261,42 @@ class FileTest(HostTest):
             self.file(data[:at] + bytes([data[at] ^ 1 << self.rng.randrange(8)]) + data[at + 1:])
 
 
+class SaveTest(HostTest):
+    """Saving, of numbers and of words."""
+
+    def words(self, n: int) -> list[int]:
+        """Words of all kinds: NaN patterns, zeros of either sign, any bits."""
+        return [self.rng.choice([self.rng.getrandbits(64), 0x7ff0000000000001, 0xfff8000000000000, 0, 1 << 63, 1])
+                for _ in range(n * n)]
+
+    def test_every_size(self) -> None:
+        """Sheets of every size, with room enough, just enough and too little."""
+        for reading in (1, 2):
+            for n in range(1, 33):
+                needed = 10 + n * (8 * n + 8)
+                for room in (needed, needed + 1, needed + 99):
+                    self.assertEqual(self.save(reading, n, self.words(n), room), (0, 0, 0))
+                for room in (needed - 1, 9, 0):
+                    self.assertEqual(self.save(reading, n, self.words(n), room), (4, 0, 0))
+
+    def test_sheets_that_no_table_takes(self) -> None:
+        """NaN, wrong signs and trapped stages are saved."""
+        for sheet in SHEETS:
+            words = [bits_of(x) for x in sheet.numbers]
+            self.assertEqual(self.save(sheet.reading, sheet.n, words, reference.LONGEST_FILE), (0, 0, 0))
+
+    def test_refusals(self) -> None:
+        """1, 2 and 3, each before the next, also where n × n would not fit a word."""
+        for reading in (0, 3, 2 ** 63, 2 ** 64 - 1):
+            self.assertEqual(self.save(reading, 0, [], 0), (1, 0, 0))
+        for n in (0, 33, 2 ** 32, 2 ** 63, 2 ** 64 - 1):
+            self.assertEqual(self.save(2, n, [], 0), (2, 0, 0))
+            self.assertEqual(self.save(1, n, [1] * 1089, 9000), (2, 0, 0))
+        for n in (1, 2, 32):
+            for words in ([], self.words(n)[:-1], self.words(n) + [0]):
+                self.assertEqual(self.save(1, n, words, 0), (3, 0, 0))
+
+
 class ReportTest(HostTest):
     """The text that dwell prints."""
 
@@ -364,11 +406,28 @@ class LinkTest(HostTest):
             for done in (run(host, str(sheet)), run(host, stdin=data)):
                 self.assertEqual((done.returncode, done.stdout.decode()), (status, text))
 
+    def test_example_saves(self) -> None:
+        """The example saves what it loaded, whether or not a table can be made of it."""
+        host = self.build(str(ROOT / "examples" / "host.c"), CC, "-std=c99")
+        sheet, copy = Path(Built.folder.name) / "line.sheet", Path(Built.folder.name) / "copy.sheet"
+        for data in good_files(self.rng):
+            status, text = self.printed(data)
+            sheet.write_bytes(data)
+            copy.unlink(missing_ok=True)
+            done = run(host, str(sheet), str(copy))
+            self.assertEqual((done.returncode, done.stdout.decode()), (status, text))
+            loaded = reference.load(data, PLACES)
+            self.assertEqual(copy.read_bytes(), reference.make_file_words(loaded.reading, loaded.n,
+                                                                          [reference.word_of(x) for x in loaded.numbers]))
+
     def test_example_misused(self) -> None:
         """The example tells a file that is not there, and too many words."""
         host = self.build(str(ROOT / "examples" / "host.c"), CC, "-std=c99")
         self.assertEqual(run(host, "no/such/file").returncode, 2)
-        self.assertEqual(run(host, "a", "b").stdout, b"usage: host [FILE]\n")
+        self.assertEqual(run(host, "a", "b", "c").stdout, b"usage: host [FILE [COPY]]\n")
+        sheet = Path(Built.folder.name) / "line.sheet"
+        sheet.write_bytes(file_of(SHEETS[0]))
+        self.assertEqual(run(host, str(sheet), "no/such/folder/copy").returncode, 2)
 
 
 def main() -> int:

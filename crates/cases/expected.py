@@ -8,6 +8,7 @@ dwell's input: all sheets of document 01, the cases of its reading that a file c
 at the edge of the range, and random sheets of both readings with every n from 1 to 32. Calls of the whole table
 and of one entry where a file cannot: sizes out of range, sheets and areas of a wrong length, stages out of range.
 Files for both readers: cut at every byte, a byte of a record's head changed, lengths, one byte more, a small area.
+Sheets of every n for both writers, NaN patterns among them, each loaded again; calls that saving refuses.
 Before an accepted table is written it is compared with the exact inverse by the accuracy rule.
 """
 from __future__ import annotations
@@ -21,9 +22,9 @@ from typing import Iterator, NamedTuple, Union
 sys.path.insert(0, str(Path(__file__).resolve().parents[2] / "tools"))
 sys.dont_write_bytecode = True
 
-from reference import (INF, LARGEST, LIMIT, NAN, P_SHEET, SHEET_ROW, Loaded, Refused, Style, Table, accuracy,  # noqa: E402
-                       bits_of, dwell, edge_pair, entry, load, make_file, make_file_words, number_of, random_sheet,
-                       random_style, record, table, table_of_stream)
+from reference import (INF, LARGEST, LIMIT, NAN, P_SHEET, SHEET_ROW, Loaded, Refused, Saved, Style, Table,  # noqa: E402
+                       accuracy, bits_of, dwell, edge_pair, entry, load, make_file, make_file_words, number_of, random_sheet,
+                       random_style, record, save, table, table_of_stream, word_of)
 
 Sheet = tuple[int, int, list[float]]  # reading, n, numbers
 
@@ -201,8 +202,7 @@ def inputs() -> list[bytes]:
 
 # ==== The cases and what each writes ====
 
-AREA_NUMBER, AREA_WORD = 0.5, 101       # what the places of an area hold before the call
-ONE_NAN = 0x7FF8000000000000            # how every NaN in an f64 is written
+AREA_NUMBER, AREA_WORD, AREA_BYTE = 0.5, 101, 7     # what the places of an area hold before the call
 
 
 class Case(NamedTuple):
@@ -218,7 +218,7 @@ def packed(letter: str, words: list[int], rest: bytes = b"") -> bytes:
 
 def number_bits(word: int) -> int:
     """The bits of the f64 that a word becomes: a NaN keeps no payload."""
-    return ONE_NAN if number_of(word) != number_of(word) else word
+    return word_of(number_of(word))
 
 
 def line(answer: object, handed: list[int], words: list[int]) -> str:
@@ -274,6 +274,34 @@ def file_case(data: bytes, room: int) -> Case:
     return Case(packed("f", [room], data), "".join(line(answer, head, area) for area in areas))
 
 
+def save_cases(reading: int, n: int, words: list[int], room: int) -> Iterator[Case]:
+    """A sheet saved as words and as numbers: the answer and every byte; then what loading that file gives."""
+    for letter, sheet, unset in (("s", words, AREA_WORD), ("n", [number_bits(word) for word in words], bits_of(AREA_NUMBER))):
+        answer = save(reading, n, sheet, room)
+        data = answer.data if isinstance(answer, Saved) else b""
+        area = data + bytes([AREA_BYTE]) * (room - len(data))
+        again = load(data, len(sheet))
+        loaded = again.words if isinstance(again, Loaded) else [unset] * len(sheet)
+        head = [again.reading, again.n] if isinstance(again, Loaded) else []
+        text = line(answer, [len(data)] if isinstance(answer, Saved) else [], [])[:-1] + f" {area.hex()}\n"
+        yield Case(packed(letter, [reading, n, room, *words]), text + line(again, head, loaded))
+
+
+def saves(rng: random.Random) -> Iterator[Case]:
+    """Sheets of every n, with room to spare or just enough; sheets that saving refuses, in the questions' order."""
+    for n in range(1, LIMIT + 1):
+        words = [rng.choice([rng.getrandbits(64), 0x7ff0000000000001 + rng.getrandbits(40), 0xfff8000000000000, 1 << 63, 0])
+                 for _ in range(n * n)]
+        as_words, as_numbers = save_cases(1 + n % 2, n, words, 10 + n * (8 * n + 8) + n % 3)
+        yield as_words
+        if n <= 12 or n == LIMIT:
+            yield as_numbers
+    p = [bits_of(x) for x in P_SHEET]
+    for reading, n, words, room in [(0, 0, [], 0), (3, 33, p, 57), (1, 0, [], 0), (2, 33, [0] * 1089, 8500), (1, 2 ** 63, p, 0),
+                                    (2, 2, p[:3], 0), (1, 2, p + [0], 58), (1, 2, p, 57), (2, 2, p, 0), (1, 2, p, 58)]:
+        yield from save_cases(reading, n, words, room)
+
+
 def both(reading: int, n: int, sheet: list[float]) -> list[Case]:
     """The whole table with room to spare, and the first entry."""
     return [table_case(reading, n, sheet, 6), entry_case(reading, n, sheet, 1, 1)]
@@ -321,7 +349,7 @@ def damaged(data: bytes, n: int, room: int) -> list[Case]:
 def cases() -> list[Case]:
     one_nan = make_file_words(2, 1, [0xFFF4000012345678])
     return [*(dwell_case(data) for data in inputs()), *calls(), *damaged(make_file(1, 2, P_SHEET), 2, 5),
-            *damaged(one_nan, 1, 5)]
+            *damaged(one_nan, 1, 5), *saves(random.Random(20260202))]
 
 
 def main(arguments: list[str]) -> int:

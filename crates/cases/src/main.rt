@@ -6,12 +6,16 @@ ghost use lib.ListN.{length};
 use libc::STDIN_FILENO;
 use libc::STDOUT_FILENO;
 use out_places::HeadNumbers;
+use out_places::SavedNumbers;
 
 // No case is longer.
 const LONGEST: usize = 16384;
 
 // More numbers than a sheet or a table has.
 const PLACES: usize = 1100;
+
+// More bytes than the longest file has.
+const BYTES: usize = 8500;
 
 // Room for the longest text.
 const ROOM: usize = 32768;
@@ -56,6 +60,16 @@ fn write_words(area: &[u64]) {
     write_text(b"\n");
 }
 
+fn write_bytes(area: &[u8]) {
+    write_text(b" ");
+    let mut k = 0;
+    while k < area.len() {
+        io::print_hex(STDOUT_FILENO, area[k] as u64, 2);
+        k += 1;
+    }
+    write_text(b"\n");
+}
+
 // Word k behind the letter of a case, and 0 where the case is shorter.
 fn word(case: &[u8], k: usize) -> u64
     requires { ⌜ k ≤ 2048 ⌝ }
@@ -87,6 +101,18 @@ fn numbers(case: &[u8], from: usize, sheet: &mut [f64]) -> usize
     let given = least(sheet.len(), case.len() / 8 - least(case.len() / 8, from));
     for k in 0..given {
         sheet[k] = rounding::from_word(word(case, from + k));
+    }
+    given
+}
+
+// The same as words.
+fn words(case: &[u8], from: usize, sheet: &mut [u64]) -> usize
+    requires { ⌜ (from ≤ 4) × (length (now sheet) ≤ 1100) ⌝ }
+    ensures { λ r. ⌜ r ≤ length (now (sheet .entry)) ⌝ }
+{
+    let given = least(sheet.len(), case.len() / 8 - least(case.len() / 8, from));
+    for k in 0..given {
+        sheet[k] = word(case, from + k);
     }
     given
 }
@@ -179,6 +205,62 @@ fn run_file(case: &[u8]) {
     read_numbers(&case[from..], &mut numbers[..room]);
 }
 
+// s: reading, n, the number of bytes lent, and the sheet's words. What is saved is loaded again.
+fn write_saved(told: SavedNumbers) -> usize {
+    write_refusal(told.number, told.row, told.column);
+    if told.accepted {
+        write_count(told.length);
+    }
+    told.length
+}
+
+fn save_words(reading: usize, n: usize, sheet: &[u64], area: &mut [u8]) {
+    let length = write_saved(out_places::saved(file::save_words(reading, n, sheet, area)));
+    write_bytes(area);
+    let mut again = [101u64; PLACES];
+    read_words(
+        &area[..least(length, area.len())],
+        &mut again[..least(sheet.len(), PLACES)],
+    );
+}
+
+fn run_save(case: &[u8]) {
+    let mut sheet = [0u64; PLACES];
+    let given = words(case, 3, &mut sheet);
+    let mut area = [7u8; BYTES];
+    let room = least(count(case, 2), BYTES);
+    save_words(
+        count(case, 0),
+        count(case, 1),
+        &sheet[..given],
+        &mut area[..room],
+    );
+}
+
+// n: the same with the sheet's numbers.
+fn save_numbers(reading: usize, n: usize, sheet: &[f64], area: &mut [u8]) {
+    let length = write_saved(out_places::saved(file::save_numbers(reading, n, sheet, area)));
+    write_bytes(area);
+    let mut again = [0.5; PLACES];
+    read_numbers(
+        &area[..least(length, area.len())],
+        &mut again[..least(sheet.len(), PLACES)],
+    );
+}
+
+fn run_save_numbers(case: &[u8]) {
+    let mut sheet = [0.0; PLACES];
+    let given = numbers(case, 3, &mut sheet);
+    let mut area = [7u8; BYTES];
+    let room = least(count(case, 2), BYTES);
+    save_numbers(
+        count(case, 0),
+        count(case, 1),
+        &sheet[..given],
+        &mut area[..room],
+    );
+}
+
 // d: the input of dwell.
 fn run_dwell(case: &[u8]) {
     let from = least(1, case.len());
@@ -197,6 +279,8 @@ fn run_case(case: &[u8]) {
         b'e' => run_entry(case),
         b'a' => run_entries(case),
         b'f' => run_file(case),
+        b's' => run_save(case),
+        b'n' => run_save_numbers(case),
         _ => run_dwell(case),
     }
 }

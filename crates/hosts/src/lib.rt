@@ -130,7 +130,12 @@ pub extern "C" fn yulanbowls_save_numbers(
 ) -> usize
     ensures { λ r. ⌜ SaveCall savedNumbers reading n (now (sheet .entry)) (now (bytes .entry)) (now (bytes .exit)) (now (length .entry)) (now (length .exit)) (now (row .exit)) (now (column .exit)) r ⌝ }
 {
-    hand_length(file::save_numbers(reading, n, sheet, bytes), length, row, column)
+    hand_length(
+        file::save_numbers(reading, n, sheet, bytes),
+        length,
+        row,
+        column,
+    )
 }
 
 // A sheet of 64-bit words as a file in the first bytes of the area; every bit is kept.
@@ -146,7 +151,12 @@ pub extern "C" fn yulanbowls_save_words(
 ) -> usize
     ensures { λ r. ⌜ SaveCall savedWords reading n (now (sheet .entry)) (now (bytes .entry)) (now (bytes .exit)) (now (length .entry)) (now (length .exit)) (now (row .exit)) (now (column .exit)) r ⌝ }
 {
-    hand_length(file::save_words(reading, n, sheet, bytes), length, row, column)
+    hand_length(
+        file::save_words(reading, n, sheet, bytes),
+        length,
+        row,
+        column,
+    )
 }
 
 // The text that dwell prints for a sheet file, at the start of the area; returns its length. An area

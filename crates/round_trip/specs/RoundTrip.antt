@@ -23,7 +23,7 @@ LoadsWhatWasSaved =
     → saveAnswer reading n (length words) (length area) ≡ given size
     → n * n ≤ room
     → let file = take size (savedWords reading n words area) in
-      (fileAnswer file room ≡ given (record { reading = reading; n = n })) × (fileWords file ≡ words)
+    (fileAnswer file room ≡ given (record { reading = reading; n = n })) × (fileWords file ≡ words)
 
 -- The same for a sheet of numbers. The model has one NaN, and it is equal to itself here.
 unfoldable pub LoadsNumbersThatWereSaved : Type 0
@@ -33,7 +33,7 @@ LoadsNumbersThatWereSaved =
     → saveAnswer reading n (length sheet) (length area) ≡ given size
     → n * n ≤ room
     → let file = take size (savedNumbers reading n sheet area) in
-      (fileAnswer file room ≡ given (record { reading = reading; n = n })) × (fileNumbers file ≡ sheet)
+    (fileAnswer file room ≡ given (record { reading = reading; n = n })) × (fileNumbers file ≡ sheet)
 
 -- Saving what was loaded, into an area that holds as many bytes as the file: the call hands over the file's length, and the
 -- area then begins with its bytes. On words for every file that loads.
