@@ -49,11 +49,11 @@ pub fn put_number(number: u64, width: usize, at: usize, out: &mut [u8]) -> usize
 {
     let mut rest = number;
     let mut next = at;
-    let mut k = 0;
-    while k < width {
+    let mut done = 0;
+    while done < width {
         next = buffer::put_byte((rest % 256) as u8, next, out);
         rest = rest / 256;
-        k += 1;
+        done += 1;
     }
     next
 }

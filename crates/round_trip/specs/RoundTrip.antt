@@ -10,22 +10,28 @@ use Rattle.definitions.specs.Services.{given}
 use Rattle.definitions.specs.File.{Head, fileAnswer, fileWords, fileNumbers}
 use Rattle.definitions.specs.Saving.{saveAnswer, savedWords, savedNumbers}
 
--- The contents of lent bytes and of lent 64-bit words: lists of whole numbers below 256, and below 2^64.
+-- The definitions speak of lists of whole numbers. Those of lent bytes are below 256, and those of lent 64-bit words below 2^64.
 pub record Below (limit : ℕ) (list : List ℕ) : Type 0 where
   pub at : (i : ℕ) → i < length list → getD list i 0 < limit
 
--- The file that a call left in its bytes: as many as it hands over.
--- What loading it hands over and fills in with room enough: the same reading and n, and the same words.
+abbrev pub Bytes : List ℕ → Type 0
+Bytes list = Below 256 list
+
+abbrev pub Words : List ℕ → Type 0
+Words list = Below (2 ^ 64) list
+
+-- The file is as many bytes of the area as saving hands over. Loading it, with room enough, hands over the same reading and n,
+-- and the words of the file are those that were saved. For every sheet that is saved.
 unfoldable pub LoadsWhatWasSaved : Type 0
 LoadsWhatWasSaved =
     (reading n : ℕ) (words area : List ℕ) (size room : ℕ)
-    → Below (2 ^ 64) words
+    → Words words
     → saveAnswer reading n (length words) (length area) ≡ given size
     → n * n ≤ room
     → let file = take size (savedWords reading n words area) in
     (fileAnswer file room ≡ given (record { reading = reading; n = n })) × (fileWords file ≡ words)
 
--- The same for a sheet of numbers. The model has one NaN, and it is equal to itself here.
+-- The same for a sheet of numbers: equal numbers, a NaN being equal to itself here.
 unfoldable pub LoadsNumbersThatWereSaved : Type 0
 LoadsNumbersThatWereSaved =
     (reading n : ℕ) (sheet : List Float) (area : List ℕ) (size room : ℕ)
@@ -40,20 +46,20 @@ LoadsNumbersThatWereSaved =
 unfoldable pub SavesWhatWasLoaded : Type 0
 SavesWhatWasLoaded =
     (bytes area : List ℕ) (head : Head) (room : ℕ)
-    → Below 256 bytes
+    → Bytes bytes
     → fileAnswer bytes room ≡ given head
     → length bytes ≤ length area
     → (saveAnswer (head .reading) (head .n) (length (fileWords bytes)) (length area) ≡ given (length bytes))
     × (take (length bytes) (savedWords (head .reading) (head .n) (fileWords bytes) area) ≡ bytes)
 
--- On numbers for files whose NaN words are the one that is written: a number keeps nothing of another NaN pattern.
+-- On numbers for the files whose NaN words are the one that is written, since a number keeps nothing of another NaN pattern.
 pub record OneNan (words : List ℕ) : Type 0 where
   pub at : (i : ℕ) → i < length words → nanBits binary64 (getD words i 0) ≡ true → getD words i 0 ≡ toBits binary64 nan
 
 unfoldable pub SavesNumbersThatWereLoaded : Type 0
 SavesNumbersThatWereLoaded =
     (bytes area : List ℕ) (head : Head) (room : ℕ)
-    → Below 256 bytes
+    → Bytes bytes
     → OneNan (fileWords bytes)
     → fileAnswer bytes room ≡ given head
     → length bytes ≤ length area

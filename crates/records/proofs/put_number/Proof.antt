@@ -1,4 +1,4 @@
--- `records::put_number` meets its contract. The loop's invariant: the first k bytes are written, and the rest is the number without them. Assumes nothing.
+-- `records::put_number` meets its contract. The loop's invariant: so many bytes are written, and the rest is the number without them. Assumes nothing.
 use Prim.Native.Nat.{ℕ, _+_, _-_, _/_, _%_, _≤_, _<_}
 use mathlib.Core.List.{List, [], _∷_}
 use mathlib.Core.Path.{_≡_, ap, _∙_}
@@ -18,10 +18,10 @@ byte-turn number width room due left so-far =
     rw left (turn (λ k. littleBytes k number) (λ k. after k number % 256 ∷ []) width (λ k h. little-grows number k) room due so-far)
 
 abbrev Inv-loop : tie.InvT-loop
-Inv-loop number width at out₀ rest₀ next₀ k₀ out rest next k = (k ≤ width) × (rest ≡ after k number) × Written (littleBytes k number) at out₀ out next
+Inv-loop number width at out₀ rest₀ next₀ done₀ out rest next done = (done ≤ width) × (rest ≡ after done number) × Written (littleBytes done number) at out₀ out next
 
 abbrev μ-loop : tie.MeasureT-loop
-μ-loop number width at out₀ rest₀ next₀ k₀ out rest next k = width - k
+μ-loop number width at out₀ rest₀ next₀ done₀ out rest next done = width - done
 
 loop-holds : tie.Need-loop-holds Inv-loop μ-loop
 loop-holds c = (omega arith, after-none _, little-begun _ _ _)
@@ -38,13 +38,13 @@ loop-again c =
     let start = here .before .before .before in
     let inv = here .before .loop .inv in (
       omega arith,
-      ap (λ m. m / 256) (inv .1) ∙ after-one-more (here .before .loop .k) (start .args .number),
+      ap (λ m. m / 256) (inv .1) ∙ after-one-more (here .before .loop .done) (start .args .number),
       byte-turn (start .args .number) (start .args .width) (start .pre) (here .loop-test .taken) (inv .1) (inv .2) .written (c .before .before .put-byte .ensures),
     )
 
 returns : tie.Need-returns Inv-loop μ-loop
 returns c =
-    let all : c .before .loop .k ≡ c .before .before .before .args .width = omega arith in
+    let all : c .before .loop .done ≡ c .before .before .before .args .width = omega arith in
     rw all at (c .before .loop .inv .2)
 
 same-length : tie.Need-same-length Inv-loop μ-loop
