@@ -11,50 +11,39 @@ use Rattle.definitions.specs.Table.{entry}
 use Rattle.definitions.specs.Matrix.{matrix, everyStage}
 use Rattle.definitions.specs.Questions.{pass, tableQuestions, entryQuestions}
 use Rattle.definitions.specs.Accuracy.{Accurate}
-use Rattle.definitions.specs.Services.{Answer, tableAnswer, tableArea, entryAnswer}
-use Rattle.definitions.specs.File.{Head, fileAnswer}
+use Rattle.definitions.specs.Services.{tableAnswer, tableArea, entryAnswer}
+use Rattle.definitions.specs.File.{fileAnswer}
 use Rattle.definitions.specs.Saving.{saveAnswer}
 use Rattle.definitions.specs.Dwell.{fileText}
 use Rattle.buffer.specs.Pasted.{AtStart}
-use Rattle.out_places.specs.OutPlaces.{Refusal, handed}
+use Rattle.out_places.specs.OutPlaces.{ValueHanded, HeadHanded}
 
 -- The whole table: the answer area and the place for the allowance before and after, the places for the row and the column
 -- after, and the number returned.
 pub record TableCall (reading n : ℕ) (sheet before after : List Float) (allowed allowed' row column returned : ℕ) : Type 0 where
-  pub told : Refusal (tableAnswer reading n sheet (length before)) returned row column
-  pub allows : allowed' ≡ handed (λ allowance. allowance) (tableAnswer reading n sheet (length before)) allowed
+  pub answer : ValueHanded (tableAnswer reading n sheet (length before)) allowed allowed' row column returned
   pub area : after ≡ tableArea reading n sheet before
   pub accurate : tableQuestions reading n sheet (length before) ≡ pass
       → Accurate n everyStage (allowance reading n) (matrix reading n sheet) (place n after)
 
 -- One entry: the place for the seconds before and after, and the same.
 pub record EntryCall (reading n : ℕ) (sheet : List Float) (i j : ℕ) (seconds seconds' : Float) (row column returned : ℕ) : Type 0 where
-  pub told : Refusal (entryAnswer reading n sheet i j) returned row column
-  pub gives : seconds' ≡ handed (λ seconds. seconds) (entryAnswer reading n sheet i j) seconds
+  pub answer : ValueHanded (entryAnswer reading n sheet i j) seconds seconds' row column returned
   pub accurate : entryQuestions reading n sheet i j ≡ pass
       → Accurate n everyStage (allowance reading n) (matrix reading n sheet) (entry reading n sheet)
 
--- What file reading hands over and tells: the places for the reading and the number of stages before and after, and the same.
-pub record HeadCall (answer : Answer Head) (reading reading' n n' row column returned : ℕ) : Type 0 where
-  pub told : Refusal answer returned row column
-  pub reads : reading' ≡ handed (λ head. head .reading) answer reading
-  pub stages : n' ≡ handed (λ head. head .n) answer n
-
--- File reading, on numbers (`fileNumberArea`) or on words (`fileWordArea`): that, and the area before and after.
+-- File reading, on numbers (`fileNumberArea`) or on words (`fileWordArea`): the area, and the places for the reading and the
+-- number of stages, before and after.
 pub record FileCall {A : Type 0} (filledArea : List ℕ → List A → List A) (bytes : List ℕ) (before after : List A)
     (reading reading' n n' row column returned : ℕ) : Type 0 where
-  pub head : HeadCall (fileAnswer bytes (length before)) reading reading' n n' row column returned
+  pub answer : HeadHanded (fileAnswer bytes (length before)) reading reading' n n' row column returned
   pub area : after ≡ filledArea bytes before
 
--- What saving hands over and tells: the place for the file's length before and after, and the same.
-pub record LengthCall (answer : Answer ℕ) (size size' row column returned : ℕ) : Type 0 where
-  pub told : Refusal answer returned row column
-  pub gives : size' ≡ handed (λ length. length) answer size
-
--- Saving, of numbers (`savedNumbers`) or of words (`savedWords`): that, and the lent bytes before and after.
+-- Saving, of numbers (`savedNumbers`) or of words (`savedWords`): the lent bytes, and the place for the file's length, before
+-- and after.
 pub record SaveCall {A : Type 0} (savedArea : ℕ → ℕ → List A → List ℕ → List ℕ) (reading n : ℕ) (sheet : List A)
     (before after : List ℕ) (size size' row column returned : ℕ) : Type 0 where
-  pub length : LengthCall (saveAnswer reading n (length sheet) (length before)) size size' row column returned
+  pub answer : ValueHanded (saveAnswer reading n (length sheet) (length before)) size size' row column returned
   pub area : after ≡ savedArea reading n sheet before
 
 -- The text of a report for an area of so many bytes: what dwell prints for the file, and nothing where the area is too short.

@@ -4,10 +4,7 @@
 // `include/yulanbowls.h` declares them.
 ghost use Rattle.definitions.specs.File.{fileNumberArea, fileWordArea};
 ghost use Rattle.definitions.specs.Saving.{savedNumbers, savedWords};
-ghost use Rattle.answers.specs.Answers.{headGiven, savedGiven};
-ghost use Rattle.hosts.specs.HostCalls.{TableCall, EntryCall, HeadCall, FileCall, LengthCall, SaveCall, ReportCall};
-use answers::Loaded;
-use answers::Saved;
+ghost use Rattle.hosts.specs.HostCalls.{TableCall, EntryCall, FileCall, SaveCall, ReportCall};
 
 // The whole table in the first n × n places of the answer area, and its allowance.
 #[no_mangle]
@@ -22,13 +19,8 @@ pub extern "C" fn yulanbowls_table(
 ) -> usize
     ensures { λ r. ⌜ TableCall reading n (now (sheet .entry)) (now (answer .entry)) (now (answer .exit)) (now (allowance .entry)) (now (allowance .exit)) (now (row .exit)) (now (column .exit)) r ⌝ }
 {
-    let table = out_places::table(planner::whole_table(reading, n, sheet, answer));
-    *row = table.row;
-    *column = table.column;
-    if table.accepted {
-        *allowance = table.allowance;
-    }
-    table.number
+    let table = planner::whole_table(reading, n, sheet, answer);
+    out_places::hand_allowance(table, allowance, row, column)
 }
 
 // Entry (i, j), counted from 1: the seconds that a request entering at stage i spends at stage j.
@@ -45,33 +37,8 @@ pub extern "C" fn yulanbowls_entry(
 ) -> usize
     ensures { λ r. ⌜ EntryCall reading n (now (sheet .entry)) i j (now (seconds .entry)) (now (seconds .exit)) (now (row .exit)) (now (column .exit)) r ⌝ }
 {
-    let entry = out_places::entry(planner::one_entry(reading, n, sheet, i, j));
-    *row = entry.row;
-    *column = entry.column;
-    if entry.accepted {
-        *seconds = entry.seconds;
-    }
-    entry.number
-}
-
-// What file reading answers, in the out places of a call.
-fn hand_over(
-    loaded: Loaded,
-    reading: &mut usize,
-    n: &mut usize,
-    row: &mut usize,
-    column: &mut usize,
-) -> usize
-    ensures { λ r. ⌜ HeadCall (headGiven loaded) (now (reading .entry)) (now (reading .exit)) (now (n .entry)) (now (n .exit)) (now (row .exit)) (now (column .exit)) r ⌝ }
-{
-    let head = out_places::head(loaded);
-    *row = head.row;
-    *column = head.column;
-    if head.accepted {
-        *reading = head.reading;
-        *n = head.n;
-    }
-    head.number
+    let entry = planner::one_entry(reading, n, sheet, i, j);
+    out_places::hand_seconds(entry, seconds, row, column)
 }
 
 // A sheet file's numbers in the first n × n places of the area, each from its bits.
@@ -86,7 +53,8 @@ pub extern "C" fn yulanbowls_read_numbers(
 ) -> usize
     ensures { λ r. ⌜ FileCall fileNumberArea (now (bytes .entry)) (now (area .entry)) (now (area .exit)) (now (reading .entry)) (now (reading .exit)) (now (n .entry)) (now (n .exit)) (now (row .exit)) (now (column .exit)) r ⌝ }
 {
-    hand_over(file::read_numbers(bytes, area), reading, n, row, column)
+    let numbers = file::read_numbers(bytes, area);
+    out_places::hand_head(numbers, reading, n, row, column)
 }
 
 // A sheet file's 64-bit words in the first n × n places of the area; every bit is kept.
@@ -101,20 +69,8 @@ pub extern "C" fn yulanbowls_read_words(
 ) -> usize
     ensures { λ r. ⌜ FileCall fileWordArea (now (bytes .entry)) (now (area .entry)) (now (area .exit)) (now (reading .entry)) (now (reading .exit)) (now (n .entry)) (now (n .exit)) (now (row .exit)) (now (column .exit)) r ⌝ }
 {
-    hand_over(file::read_words(bytes, area), reading, n, row, column)
-}
-
-// What saving answers, in the out places of a call.
-fn hand_length(saved: Saved, length: &mut usize, row: &mut usize, column: &mut usize) -> usize
-    ensures { λ r. ⌜ LengthCall (savedGiven saved) (now (length .entry)) (now (length .exit)) (now (row .exit)) (now (column .exit)) r ⌝ }
-{
-    let file = out_places::saved(saved);
-    *row = file.row;
-    *column = file.column;
-    if file.accepted {
-        *length = file.length;
-    }
-    file.number
+    let words = file::read_words(bytes, area);
+    out_places::hand_head(words, reading, n, row, column)
 }
 
 // A sheet of numbers as a file in the first bytes of the area, each number by its bits.
@@ -130,12 +86,8 @@ pub extern "C" fn yulanbowls_save_numbers(
 ) -> usize
     ensures { λ r. ⌜ SaveCall savedNumbers reading n (now (sheet .entry)) (now (bytes .entry)) (now (bytes .exit)) (now (length .entry)) (now (length .exit)) (now (row .exit)) (now (column .exit)) r ⌝ }
 {
-    hand_length(
-        file::save_numbers(reading, n, sheet, bytes),
-        length,
-        row,
-        column,
-    )
+    let saved = file::save_numbers(reading, n, sheet, bytes);
+    out_places::hand_length(saved, length, row, column)
 }
 
 // A sheet of 64-bit words as a file in the first bytes of the area; every bit is kept.
@@ -151,12 +103,8 @@ pub extern "C" fn yulanbowls_save_words(
 ) -> usize
     ensures { λ r. ⌜ SaveCall savedWords reading n (now (sheet .entry)) (now (bytes .entry)) (now (bytes .exit)) (now (length .entry)) (now (length .exit)) (now (row .exit)) (now (column .exit)) r ⌝ }
 {
-    hand_length(
-        file::save_words(reading, n, sheet, bytes),
-        length,
-        row,
-        column,
-    )
+    let saved = file::save_words(reading, n, sheet, bytes);
+    out_places::hand_length(saved, length, row, column)
 }
 
 // The text that dwell prints for a sheet file, at the start of the area; returns its length. An area

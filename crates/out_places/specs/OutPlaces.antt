@@ -38,3 +38,14 @@ pub record ValueOut {A : Type 0} (answer : Answer A) (accepted : Bool) (value : 
 pub record HeadOut (answer : Answer Head) (accepted : Bool) (reading n : ℕ) : Type 0 where
   pub reads : (before : ℕ) → cond accepted reading before ≡ handed (λ head. head .reading) answer before
   pub stages : (before : ℕ) → cond accepted n before ≡ handed (λ head. head .n) answer before
+
+-- What a call that hands over one value leaves: what it tells, and the value's place before and after.
+pub record ValueHanded {A : Type 0} (answer : Answer A) (before after : A) (atRow atColumn returned : ℕ) : Type 0 where
+  pub told : Refusal answer returned atRow atColumn
+  pub gives : after ≡ handed (λ value. value) answer before
+
+-- The same for a head, with the places for the reading and for the number of stages.
+pub record HeadHanded (answer : Answer Head) (reading reading' n n' atRow atColumn returned : ℕ) : Type 0 where
+  pub told : Refusal answer returned atRow atColumn
+  pub reads : reading' ≡ handed (λ head. head .reading) answer reading
+  pub stages : n' ≡ handed (λ head. head .n) answer n

@@ -1,8 +1,9 @@
 // What a service answers as plain numbers, for the out places of a caller in C, who has no enums: whether the
 // call is accepted; the refusal's number, row and column, 0 where there is none; and what is handed over, which
-// is left open where the call is refused.
+// is left open where the call is refused. And these numbers in the out places: the number is returned, `row` and
+// `column` tell the rest of the refusal, and the other places are written only where the call is accepted.
 ghost use Rattle.answers.specs.Answers.{tableGiven, entryGiven, headGiven, savedGiven};
-ghost use Rattle.out_places.specs.OutPlaces.{Refusal, ValueOut, HeadOut};
+ghost use Rattle.out_places.specs.OutPlaces.{Refusal, ValueOut, HeadOut, ValueHanded, HeadHanded};
 use answers::Entry;
 use answers::Loaded;
 use answers::Saved;
@@ -141,4 +142,64 @@ pub fn saved(told: Saved) -> SavedNumbers
             length: 0,
         },
     }
+}
+
+pub fn hand_allowance(
+    told: Table,
+    allowance: &mut usize,
+    row: &mut usize,
+    column: &mut usize,
+) -> usize
+    ensures { λ r. ⌜ ValueHanded (tableGiven told) (now (allowance .entry)) (now (allowance .exit)) (now (row .exit)) (now (column .exit)) r ⌝ }
+{
+    let allowed = table(told);
+    *row = allowed.row;
+    *column = allowed.column;
+    if allowed.accepted {
+        *allowance = allowed.allowance;
+    }
+    allowed.number
+}
+
+pub fn hand_seconds(told: Entry, seconds: &mut f64, row: &mut usize, column: &mut usize) -> usize
+    ensures { λ r. ⌜ ValueHanded (entryGiven told) (now (seconds .entry)) (now (seconds .exit)) (now (row .exit)) (now (column .exit)) r ⌝ }
+{
+    let entered = entry(told);
+    *row = entered.row;
+    *column = entered.column;
+    if entered.accepted {
+        *seconds = entered.seconds;
+    }
+    entered.number
+}
+
+pub fn hand_length(told: Saved, length: &mut usize, row: &mut usize, column: &mut usize) -> usize
+    ensures { λ r. ⌜ ValueHanded (savedGiven told) (now (length .entry)) (now (length .exit)) (now (row .exit)) (now (column .exit)) r ⌝ }
+{
+    let file = saved(told);
+    *row = file.row;
+    *column = file.column;
+    if file.accepted {
+        *length = file.length;
+    }
+    file.number
+}
+
+pub fn hand_head(
+    told: Loaded,
+    reading: &mut usize,
+    n: &mut usize,
+    row: &mut usize,
+    column: &mut usize,
+) -> usize
+    ensures { λ r. ⌜ HeadHanded (headGiven told) (now (reading .entry)) (now (reading .exit)) (now (n .entry)) (now (n .exit)) (now (row .exit)) (now (column .exit)) r ⌝ }
+{
+    let sheet = head(told);
+    *row = sheet.row;
+    *column = sheet.column;
+    if sheet.accepted {
+        *reading = sheet.reading;
+        *n = sheet.n;
+    }
+    sheet.number
 }
