@@ -1,5 +1,5 @@
 -- Saving a sheet (document 02, U1): the file of a sheet, and what the call is asked, answers and leaves in the lent bytes.
-use Prim.Native.Nat.{ℕ, zero, suc, _*_, _/_, _%_}
+use Prim.Native.Nat.{ℕ, zero, suc, _/_, _%_}
 use mathlib.Core.List.{List, [], _∷_, _++_, map}
 use lib.ListN.{length, take, drop}
 use lib.Ieee.{Float, binary64, toBits}

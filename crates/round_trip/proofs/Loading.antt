@@ -1,19 +1,17 @@
 -- Reading the file of a sheet: it is accepted, and what is read are the sheet's words.
 use Prim.Native.Nat.{ℕ, zero, suc, _+_, _*_, _^_, _≤_, _<_}
-use mathlib.Core.Bool.{Bool, true, false, _&&_, _||_}
+use mathlib.Core.Bool.{true, _||_}
 use mathlib.Core.List.{List, [], _∷_, _++_, append-nil}
 use mathlib.Core.Path.{_≡_, refl, sym, ap, ap₂, _∙_}
 use native.Mathlib.Nat.{suc-mul, zero-mul}
 use native.Mathlib.Omega.{arith}
 use borrow.Author.Tests.{eq-eqb, le-leb}
-use lib.Dec.{leb, eqb}
+use lib.Dec.{eqb}
 use lib.ListN.{length, take, drop, length-append, length-drop}
-use lib.Seq.{drop-at, take-at, take-add, take-all, length-take-le}
-use lib.Ieee.Bits.{is-true}
-use Rattle.definitions.specs.Questions.{pass, ask, _then_, question1, question2, question3, question4}
+use lib.Seq.{drop-at, take-add, take-all, length-take-le}
+use Rattle.definitions.specs.Questions.{pass, question1, question2, question4}
 use Rattle.definitions.specs.File.{little, recordLength, recordKind, payload, rest, wholeRecord, headReading, headStages, goodHead, goodRow, rowQuestions, fileQuestions, words, rowWords, fileWords}
-use Rattle.definitions.specs.Saving.{littleBytes, recordBytes, headBytes, wordBytes, rowBytes, rowsBytes, sheetFile}
-use Rattle.steps.proofs.QuestionLaws.{ask-yes}
+use Rattle.definitions.specs.Saving.{littleBytes, headBytes, wordBytes, rowBytes, rowsBytes, sheetFile}
 use Rattle.records.proofs.LittleBytes.{length-little}
 use Rattle.saving.proofs.FileBytes.{length-words}
 use Rattle.round_trip.specs.RoundTrip.{Below}

@@ -1,12 +1,11 @@
 -- Numbers and their 64-bit words, there and back.
-use Prim.Native.Nat.{ℕ, zero, suc, _*_, _^_, _<_}
+use Prim.Native.Nat.{ℕ, suc, _^_, _<_}
 use mathlib.Core.Bool.{Bool, true, false}
 use mathlib.Core.List.{List, [], _∷_, map}
 use mathlib.Core.Path.{_≡_, refl, sym, ap, ap₂, _∙_}
 use native.Mathlib.Omega.{arith}
 use lib.Dec.{T}
-use lib.ListN.{length, getD, length-map}
-use lib.Ieee.{Float, binary64, ofBits, toBits, fits, nan, isNan, nanBits}
+use lib.Ieee.{Float, binary64, ofBits, toBits, fits, nan, nanBits}
 use lib.Ieee.Bits.{ofBits-toBits, toBits-lt, toBits-ofBits, nanBits-is}
 use Rattle.definitions.specs.Accuracy.{Binary64}
 use Rattle.definitions.specs.Saving.{sheetWords}

@@ -1,13 +1,13 @@
 -- Records and their bytes, there and back.
-use Prim.Native.Nat.{ℕ, _+_, _*_, _^_, _≤_, _<_}
+use Prim.Native.Nat.{ℕ, _+_, _^_, _≤_, _<_}
 use mathlib.Core.Bool.{true}
-use mathlib.Core.List.{List, [], _∷_, _++_, append-assoc}
-use mathlib.Core.Path.{_≡_, refl, sym, ap, _∙_}
+use mathlib.Core.List.{List, _++_, append-assoc}
+use mathlib.Core.Path.{_≡_, refl, sym, _∙_}
 use native.Mathlib.Omega.{arith}
 use borrow.Author.Tests.{le-leb}
-use lib.ListN.{length, take, drop, length-append, length-take, length-drop, take-append-drop}
+use lib.ListN.{length, take, drop, length-append, length-drop, take-append-drop}
 use lib.Seq.{take-at, drop-at, drop-drop, take-add, length-take-le}
-use Rattle.definitions.specs.File.{little, recordLength, recordKind, payload, rest, wholeRecord}
+use Rattle.definitions.specs.File.{recordLength, recordKind, payload, rest, wholeRecord}
 use Rattle.definitions.specs.Saving.{littleBytes, recordBytes}
 use Rattle.records.proofs.LittleBytes.{length-little}
 use Rattle.records.proofs.Records.{whole-room}

@@ -1,17 +1,17 @@
 -- The round trips.
 use Prim.Native.Nat.{ℕ, _*_, _^_, _≤_, _<_}
 use mathlib.Core.Bool.{true, _&&_, _||_}
-use mathlib.Core.List.{List, _++_, map}
+use mathlib.Core.List.{List}
 use mathlib.Core.Logic.{⊎-elim}
 use mathlib.Core.Path.{_≡_, refl, sym, ap, _∙_}
 use native.Mathlib.Omega.{arith}
 use borrow.Author.Tests.{eq-eqb, le-leb}
 use lib.Dec.{leb, eqb, eqb→eq, leb→le}
-use lib.ListN.{length, take, drop, length-map}
+use lib.ListN.{length, take, length-map}
 use lib.Seq.{take-at}
-use lib.Ieee.{Float, binary64, ofBits}
+use lib.Ieee.{binary64, ofBits}
 use lib.Ieee.Bits.{is-true}
-use lib.Ieee.Fits.{and-l, and-r}
+use lib.Ieee.Fits.{and-l}
 use Rattle.exact.proofs.Bools.{or-cases}
 use Rattle.definitions.specs.Questions.{pass, _then_, question1, question2, question3, question4}
 use Rattle.definitions.specs.Services.{given}
@@ -23,7 +23,7 @@ use Rattle.payload.specs.SheetFile.{SheetFile}
 use Rattle.payload.proofs.FileWords.{file-passed, file-words-length}
 use Rattle.saving.proofs.FileBytes.{length-file}
 use Rattle.saving.proofs.SheetWords.{length-sheet-words}
-use Rattle.round_trip.specs.RoundTrip.{Below, LoadsWhatWasSaved, LoadsNumbersThatWereSaved, SavesWhatWasLoaded, OneNan, SavesNumbersThatWereLoaded}
+use Rattle.round_trip.specs.RoundTrip.{Below, LoadsWhatWasSaved, LoadsNumbersThatWereSaved, SavesWhatWasLoaded, SavesNumbersThatWereLoaded}
 use Rattle.round_trip.proofs.Loading.{file-reading, file-stages, file-passes, file-words}
 use Rattle.round_trip.proofs.SavingAgain.{file-again, file-words-below}
 use Rattle.round_trip.proofs.NumberWords.{words-below, numbers-back, words-kept}

@@ -6,17 +6,17 @@ use mathlib.Core.Path.{_≡_, refl, sym, _∙_}
 use native.Mathlib.Omega.{arith}
 use borrow.Author.Tests.{eqb-true}
 use lib.Dec.{eqb, lit<}
-use lib.ListN.{length, take, drop, length-append, length-drop, take-append-drop}
+use lib.ListN.{length, take, drop, length-drop, take-append-drop}
 use lib.Seq.{take-at, drop-at, take-add, take-all}
 use lib.Ieee.Bits.{is-true}
 use Rattle.definitions.specs.Questions.{pass}
-use Rattle.definitions.specs.File.{little, recordLength, recordKind, payload, rest, wholeRecord, headReading, headStages, rowQuestions, words, rowWords, fileWords}
-use Rattle.definitions.specs.Saving.{littleBytes, recordBytes, headBytes, wordBytes, rowBytes, rowsBytes, sheetFile}
+use Rattle.definitions.specs.File.{little, recordLength, payload, rest, wholeRecord, headReading, headStages, rowQuestions, words, rowWords, fileWords}
+use Rattle.definitions.specs.Saving.{littleBytes, headBytes, wordBytes, rowBytes, rowsBytes, sheetFile}
 use Rattle.steps.proofs.QuestionLaws.{ask-yes}
 use Rattle.records.proofs.Little.{below}
 use Rattle.file_questions.proofs.Judging.{Read, RowRead}
 use Rattle.payload.specs.SheetFile.{SheetFile}
-use Rattle.payload.proofs.FileWords.{words-length, RowPassed, row-passed, FilePassed, file-passed}
+use Rattle.payload.proofs.FileWords.{words-length, row-passed, file-passed}
 use Rattle.round_trip.specs.RoundTrip.{Below}
 use Rattle.round_trip.proofs.Bytes.{bytes-back, below-drop, below-take, below-nothing, below-more, below-append, below-all}
 use Rattle.round_trip.proofs.RecordBytes.{length-payload, record-back}

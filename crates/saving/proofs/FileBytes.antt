@@ -4,8 +4,8 @@ use mathlib.Core.List.{List, [], _∷_, _++_, append-assoc, append-nil}
 use mathlib.Core.Path.{_≡_, refl, sym, ap, _∙_}
 use native.Mathlib.Nat.{suc-mul, zero-mul, add-zero, mul-le-mul, mul-le-mul-right}
 use native.Mathlib.Omega.{arith}
-use lib.ListN.{length, take, drop, getD, length-append, length-take, length-drop}
-use lib.Seq.{take-suc, take-take, take-length, drop-drop, length-take-le}
+use lib.ListN.{length, take, drop, getD, length-append, length-drop}
+use lib.Seq.{take-suc, drop-drop, length-take-le}
 use Rattle.definitions.specs.File.{fileLength}
 use Rattle.definitions.specs.Saving.{littleBytes, recordBytes, headBytes, wordBytes, rowBytes, rowsBytes, sheetFile}
 use Rattle.buffer.specs.Pasted.{Room, Written}

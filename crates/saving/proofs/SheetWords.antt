@@ -1,6 +1,6 @@
 -- The words of a sheet's numbers, one by one.
 use Prim.Native.Nat.{ℕ, _*_, _≤_}
-use mathlib.Core.List.{List, map}
+use mathlib.Core.List.{List}
 use mathlib.Core.Path.{_≡_, sym}
 use native.Mathlib.Nat.{mul-le-mul}
 use lib.ListN.{length, take, getD, length-map, List·getD-map}

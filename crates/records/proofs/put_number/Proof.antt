@@ -5,7 +5,7 @@ use mathlib.Core.Path.{_≡_, ap, _∙_}
 use native.Mathlib.Omega.{arith}
 use Rattle.definitions.specs.Saving.{littleBytes}
 use Rattle.buffer.specs.Pasted.{Room, Written}
-use Rattle.buffer.proofs.Pasting.{written-nothing, length-written}
+use Rattle.buffer.proofs.Pasting.{length-written}
 use Rattle.buffer.proofs.Growing.{Turn, turn}
 use Rattle.records.proofs.LittleBytes.{after, after-none, after-one-more, little-begun, little-grows}
 use Rattle.records.proofs.put_number.Statement.{statement}
