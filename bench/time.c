@@ -145,15 +145,18 @@ static void choose_calls(struct group *g)
         }
 }
 
-/* One batch of each candidate. */
+/* One batch of each candidate, in every second round from the last to the first: after code with wide vectors
+   the processor keeps a lower clock for a while, which would always meet the same candidate. */
 static void measure(struct group *g, uint64_t round)
 {
-    for (size_t c = 0; c < CANDIDATES; c++)
+    for (size_t k = 0; k < CANDIDATES; k++) {
+        size_t c = round % 2 == 0 ? k : CANDIDATES - 1 - k;
         if (takes_part(g, c)) {
             double each = batch(g, c, g->calls[c], round) / (double)g->calls[c];
             if (each < g->best[c])
                 g->best[c] = each;
         }
+    }
 }
 
 /* Candidates take turns, and so do groups, until all have had their batches: a slow moment of the machine
