@@ -3,10 +3,10 @@
 // call, 64-bit words for its numbers, and the bytes of a file where it takes one. expected.py writes the cases.
 ghost use Prim.Native.Nat.{_≤_};
 ghost use lib.ListN.{length};
+use answers::Loaded;
+use answers::Saved;
 use libc::STDIN_FILENO;
 use libc::STDOUT_FILENO;
-use out_places::HeadNumbers;
-use out_places::SavedNumbers;
 
 // No case is longer.
 const LONGEST: usize = 16384;
@@ -119,10 +119,14 @@ fn words(case: &[u8], from: usize, sheet: &mut [u64]) -> usize
 
 // t: reading, n, the length of the answer area, and the sheet's numbers.
 fn try_table(reading: usize, n: usize, sheet: &[f64], area: &mut [f64]) {
-    let told = out_places::table(planner::whole_table(reading, n, sheet, area));
-    write_refusal(told.number, told.row, told.column);
-    if told.accepted {
-        write_count(told.allowance);
+    let told = planner::whole_table(reading, n, sheet, area);
+    let mut allowance = 0;
+    let mut row = 0;
+    let mut column = 0;
+    let number = out_places::hand_allowance(told, &mut allowance, &mut row, &mut column);
+    write_refusal(number, row, column);
+    if number == 0 {
+        write_count(allowance);
     }
     write_numbers(area);
 }
@@ -141,10 +145,14 @@ fn run_table(case: &[u8]) {
 }
 
 fn try_entry(reading: usize, n: usize, sheet: &[f64], i: usize, j: usize) {
-    let told = out_places::entry(planner::one_entry(reading, n, sheet, i, j));
-    write_refusal(told.number, told.row, told.column);
-    if told.accepted {
-        write_word(rounding::to_word(told.seconds));
+    let told = planner::one_entry(reading, n, sheet, i, j);
+    let mut seconds = 0.0;
+    let mut row = 0;
+    let mut column = 0;
+    let number = out_places::hand_seconds(told, &mut seconds, &mut row, &mut column);
+    write_refusal(number, row, column);
+    if number == 0 {
+        write_word(rounding::to_word(seconds));
     }
     write_text(b"\n");
 }
@@ -178,21 +186,26 @@ fn run_entries(case: &[u8]) {
 }
 
 // f: the length of the area, and a file, which both readers read.
-fn write_head(told: HeadNumbers) {
-    write_refusal(told.number, told.row, told.column);
-    if told.accepted {
-        write_count(told.reading);
-        write_count(told.n);
+fn write_head(told: Loaded) {
+    let mut reading = 0;
+    let mut n = 0;
+    let mut row = 0;
+    let mut column = 0;
+    let number = out_places::hand_head(told, &mut reading, &mut n, &mut row, &mut column);
+    write_refusal(number, row, column);
+    if number == 0 {
+        write_count(reading);
+        write_count(n);
     }
 }
 
 fn read_words(bytes: &[u8], area: &mut [u64]) {
-    write_head(out_places::head(file::read_words(bytes, area)));
+    write_head(file::read_words(bytes, area));
     write_words(area);
 }
 
 fn read_numbers(bytes: &[u8], area: &mut [f64]) {
-    write_head(out_places::head(file::read_numbers(bytes, area)));
+    write_head(file::read_numbers(bytes, area));
     write_numbers(area);
 }
 
@@ -206,16 +219,20 @@ fn run_file(case: &[u8]) {
 }
 
 // s: reading, n, the number of bytes lent, and the sheet's words. What is saved is loaded again.
-fn write_saved(told: SavedNumbers) -> usize {
-    write_refusal(told.number, told.row, told.column);
-    if told.accepted {
-        write_count(told.length);
+fn write_saved(told: Saved) -> usize {
+    let mut length = 0;
+    let mut row = 0;
+    let mut column = 0;
+    let number = out_places::hand_length(told, &mut length, &mut row, &mut column);
+    write_refusal(number, row, column);
+    if number == 0 {
+        write_count(length);
     }
-    told.length
+    length
 }
 
 fn save_words(reading: usize, n: usize, sheet: &[u64], area: &mut [u8]) {
-    let length = write_saved(out_places::saved(file::save_words(reading, n, sheet, area)));
+    let length = write_saved(file::save_words(reading, n, sheet, area));
     write_bytes(area);
     let mut again = [101u64; PLACES];
     read_words(
@@ -239,7 +256,7 @@ fn run_save(case: &[u8]) {
 
 // n: the same with the sheet's numbers.
 fn save_numbers(reading: usize, n: usize, sheet: &[f64], area: &mut [u8]) {
-    let length = write_saved(out_places::saved(file::save_numbers(reading, n, sheet, area)));
+    let length = write_saved(file::save_numbers(reading, n, sheet, area));
     write_bytes(area);
     let mut again = [0.5; PLACES];
     read_numbers(

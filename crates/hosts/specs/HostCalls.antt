@@ -13,10 +13,9 @@ use Rattle.definitions.specs.Questions.{pass, tableQuestions, entryQuestions}
 use Rattle.definitions.specs.Accuracy.{Accurate}
 use Rattle.definitions.specs.Services.{tableAnswer, tableArea, entryAnswer}
 use Rattle.definitions.specs.File.{fileAnswer}
-use Rattle.definitions.specs.Saving.{saveAnswer}
 use Rattle.definitions.specs.Dwell.{fileText}
 use Rattle.buffer.specs.Pasted.{AtStart}
-use Rattle.out_places.specs.OutPlaces.{ValueHanded, HeadHanded}
+use Rattle.out_places.specs.OutPlaces.{ValueHanded}
 
 -- The whole table: the answer area and the place for the allowance before and after, the places for the row and the column
 -- after, and the number returned.
@@ -31,20 +30,6 @@ pub record EntryCall (reading n : ℕ) (sheet : List Float) (i j : ℕ) (seconds
   pub answer : ValueHanded (entryAnswer reading n sheet i j) seconds seconds' row column returned
   pub accurate : entryQuestions reading n sheet i j ≡ pass
       → Accurate n everyStage (allowance reading n) (matrix reading n sheet) (entry reading n sheet)
-
--- File reading, on numbers (`fileNumberArea`) or on words (`fileWordArea`): the area, and the places for the reading and the
--- number of stages, before and after.
-pub record FileCall {A : Type 0} (filledArea : List ℕ → List A → List A) (bytes : List ℕ) (before after : List A)
-    (reading reading' n n' row column returned : ℕ) : Type 0 where
-  pub answer : HeadHanded (fileAnswer bytes (length before)) reading reading' n n' row column returned
-  pub area : after ≡ filledArea bytes before
-
--- Saving, of numbers (`savedNumbers`) or of words (`savedWords`): the lent bytes, and the place for the file's length, before
--- and after.
-pub record SaveCall {A : Type 0} (savedArea : ℕ → ℕ → List A → List ℕ → List ℕ) (reading n : ℕ) (sheet : List A)
-    (before after : List ℕ) (size size' row column returned : ℕ) : Type 0 where
-  pub answer : ValueHanded (saveAnswer reading n (length sheet) (length before)) size size' row column returned
-  pub area : after ≡ savedArea reading n sheet before
 
 -- The text of a report for an area of so many bytes: what dwell prints for the file, and nothing where the area is too short.
 unfoldable pub reportText : List ℕ → ℕ → List ℕ

@@ -4,7 +4,8 @@
 // `include/yulanbowls.h` declares them.
 ghost use Rattle.definitions.specs.File.{fileNumberArea, fileWordArea};
 ghost use Rattle.definitions.specs.Saving.{savedNumbers, savedWords};
-ghost use Rattle.hosts.specs.HostCalls.{TableCall, EntryCall, FileCall, SaveCall, ReportCall};
+ghost use Rattle.file_calls.specs.FileCalls.{FileCall, SaveCall};
+ghost use Rattle.hosts.specs.HostCalls.{TableCall, EntryCall, ReportCall};
 
 // The whole table in the first n × n places of the answer area, and its allowance.
 #[no_mangle]
@@ -53,8 +54,7 @@ pub extern "C" fn yulanbowls_read_numbers(
 ) -> usize
     ensures { λ r. ⌜ FileCall fileNumberArea (now (bytes .entry)) (now (area .entry)) (now (area .exit)) (now (reading .entry)) (now (reading .exit)) (now (n .entry)) (now (n .exit)) (now (row .exit)) (now (column .exit)) r ⌝ }
 {
-    let numbers = file::read_numbers(bytes, area);
-    out_places::hand_head(numbers, reading, n, row, column)
+    file_calls::read_numbers(bytes, area, reading, n, row, column)
 }
 
 // A sheet file's 64-bit words in the first n × n places of the area; every bit is kept.
@@ -69,8 +69,7 @@ pub extern "C" fn yulanbowls_read_words(
 ) -> usize
     ensures { λ r. ⌜ FileCall fileWordArea (now (bytes .entry)) (now (area .entry)) (now (area .exit)) (now (reading .entry)) (now (reading .exit)) (now (n .entry)) (now (n .exit)) (now (row .exit)) (now (column .exit)) r ⌝ }
 {
-    let words = file::read_words(bytes, area);
-    out_places::hand_head(words, reading, n, row, column)
+    file_calls::read_words(bytes, area, reading, n, row, column)
 }
 
 // A sheet of numbers as a file in the first bytes of the area, each number by its bits.
@@ -86,8 +85,7 @@ pub extern "C" fn yulanbowls_save_numbers(
 ) -> usize
     ensures { λ r. ⌜ SaveCall savedNumbers reading n (now (sheet .entry)) (now (bytes .entry)) (now (bytes .exit)) (now (length .entry)) (now (length .exit)) (now (row .exit)) (now (column .exit)) r ⌝ }
 {
-    let saved = file::save_numbers(reading, n, sheet, bytes);
-    out_places::hand_length(saved, length, row, column)
+    file_calls::save_numbers(reading, n, sheet, bytes, length, row, column)
 }
 
 // A sheet of 64-bit words as a file in the first bytes of the area; every bit is kept.
@@ -103,8 +101,7 @@ pub extern "C" fn yulanbowls_save_words(
 ) -> usize
     ensures { λ r. ⌜ SaveCall savedWords reading n (now (sheet .entry)) (now (bytes .entry)) (now (bytes .exit)) (now (length .entry)) (now (length .exit)) (now (row .exit)) (now (column .exit)) r ⌝ }
 {
-    let saved = file::save_words(reading, n, sheet, bytes);
-    out_places::hand_length(saved, length, row, column)
+    file_calls::save_words(reading, n, sheet, bytes, length, row, column)
 }
 
 // The text that dwell prints for a sheet file, at the start of the area; returns its length. An area

@@ -1,6 +1,5 @@
 -- An answer of document 01 as numbers: what a call returns, and what it leaves in its out places.
 use mathlib.Core.Path.{_≡_}
-use mathlib.Core.Bool.{Bool, cond}
 use Prim.Native.Nat.{ℕ}
 use Rattle.definitions.specs.File.{Head}
 use Rattle.definitions.specs.Services.{Answer, given, refused}
@@ -29,15 +28,6 @@ pub record Refusal {A : Type 0} (answer : Answer A) (returned atRow atColumn : �
   pub number : returned ≡ numberOf answer
   pub row : atRow ≡ rowOf answer
   pub column : atColumn ≡ columnOf answer
-
--- The place for what is handed over: the value where the call is accepted, and else what it held.
-pub record ValueOut {A : Type 0} (answer : Answer A) (accepted : Bool) (value : A) : Type 0 where
-  pub place : (before : A) → cond accepted value before ≡ handed (λ v. v) answer before
-
--- The same for the two places of a head.
-pub record HeadOut (answer : Answer Head) (accepted : Bool) (reading n : ℕ) : Type 0 where
-  pub reads : (before : ℕ) → cond accepted reading before ≡ handed (λ head. head .reading) answer before
-  pub stages : (before : ℕ) → cond accepted n before ≡ handed (λ head. head .n) answer before
 
 -- What a call that hands over one value leaves: what it tells, and the value's place before and after.
 pub record ValueHanded {A : Type 0} (answer : Answer A) (before after : A) (atRow atColumn returned : ℕ) : Type 0 where

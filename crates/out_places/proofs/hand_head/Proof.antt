@@ -1,20 +1,16 @@
--- `out_places::hand_head` meets its contract: the answer as plain numbers. Assumes nothing.
+-- `out_places::hand_head` meets its contract: the answer, case by case. Assumes nothing.
 use borrow.Author.Needs.{needs}
-use Rattle.out_places.proofs.Telling.{head-handed}
+use mathlib.Core.Path.{ap}
+use Rattle.answers.specs.Answers.{headGiven}
+use Rattle.out_places.proofs.Telling.{head-given, head-kept}
 use Rattle.out_places.proofs.hand_head.Statement.{statement}
 use Rattle.out_places.proofs.hand_head.Tie as tie
 
 returns : tie.Need-returns
-returns c =
-    let told = c .before in
-    let a = told .before .args in
-    head-handed (told .head .ensures) (a .reading .now) (a .n .now) (rw (c .if1 .taken)) (rw (c .if1 .taken))
+returns c = let a = c .before .before .before .args in head-given (a .reading .now) (a .n .now) (ap headGiven (c .before .told .given .1))
 
 returns-2 : tie.Need-returns-2
-returns-2 c =
-    let told = c .before in
-    let a = told .before .args in
-    head-handed (told .head .ensures) (a .reading .now) (a .n .now) (rw (c .if1 .left)) (rw (c .if1 .left))
+returns-2 c = let a = c .before .before .before .args in head-kept (a .reading .now) (a .n .now) (ap headGiven (c .before .told2 .given .1))
 
 pub hand-head-spec : {M : Type 1} → statement M
-hand-head-spec = tie.close (tie.spec (λ c κs. search needs) returns returns-2)
+hand-head-spec = tie.close (tie.spec (λ c. search needs) (λ c. search needs) returns returns-2)
