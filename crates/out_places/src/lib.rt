@@ -101,10 +101,10 @@ pub fn hand_head(
         }
         Loaded::Refused {
             number,
-            row: i,
+            row: due,
             column: j,
         } => {
-            *row = i;
+            *row = due;
             *column = j;
             number
         }
