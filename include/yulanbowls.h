@@ -1,7 +1,7 @@
 /*
  * Yulanbowls for C and C++ programs: dwell times from a flow sheet. The archive is libhosts.a, which
  * `rt staticlib hosts` builds for x86-64 Linux. What is promised below is proved of the library's code;
- * the exact statements are the `ensures` of crates/hosts/src/lib.rt and crates/hosts/specs/.
+ * the exact statements are the `ensures` of crates/hosts/src/lib.rt, crates/hosts/specs/ and crates/file_calls/specs/.
  *
  * The sheet
  *   n stages, 1 to 32, and n * n numbers, row by row, so at most 1,024. Off the diagonal, place (i, j)
