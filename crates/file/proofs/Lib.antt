@@ -1,2 +1,2 @@
 pub mod Reading
-mod Saving
+mod SaveAnswers

@@ -46,18 +46,18 @@ pub length-row : (number : ℕ) (words : List ℕ) → length (rowBytes number w
 length-row number words = rw row-pieces (simp (length-append, length-little, length-words) (omega arith))
 
 -- Row i of n words each.
-abbrev pub rowWords : ℕ → ℕ → List ℕ → List ℕ
-rowWords n i words = take n (drop (i * n) words)
+abbrev pub rowOf : ℕ → ℕ → List ℕ → List ℕ
+rowOf n i words = take n (drop (i * n) words)
 
 -- One row more at the end.
-pub rows-grow : (n due i : ℕ) (words : List ℕ) → rowsBytes n due (suc i) words ≡ rowsBytes n due i words ++ rowBytes (due + i) (rowWords n i words)
+pub rows-grow : (n due i : ℕ) (words : List ℕ) → rowsBytes n due (suc i) words ≡ rowsBytes n due i words ++ rowBytes (due + i) (rowOf n i words)
 unfolding rowsBytes
 rows-grow n due zero words = rw (add-zero, zero-mul) (append-nil (rowBytes due (take n words)))
 rows-grow n due (suc i) words =
     let number : suc due + i ≡ due + suc i = omega arith in
     let place : n + i * n ≡ suc i * n = omega (arith, suc-mul i n) in
     rw (rows-grow n (suc due) i (drop n words), drop-drop, number, place)
-    (sym (append-assoc (rowBytes due (take n words)) (rowsBytes n (suc due) i (drop n words)) (rowBytes (due + suc i) (rowWords n (suc i) words))))
+    (sym (append-assoc (rowBytes due (take n words)) (rowsBytes n (suc due) i (drop n words)) (rowBytes (due + suc i) (rowOf n (suc i) words))))
 
 -- No word is written before the first, and no row.
 pub words-begun : (at : ℕ) (bytes : List ℕ) → Written (wordBytes []) at bytes bytes at
@@ -65,7 +65,7 @@ unfolding wordBytes
 words-begun at bytes = written-nothing at bytes
 
 -- The rows are numbered from 1.
-pub file-grows : (n : ℕ) (words : List ℕ) (i : ℕ) → rowsBytes n 1 (suc i) words ≡ rowsBytes n 1 i words ++ rowBytes (i + 1) (rowWords n i words)
+pub file-grows : (n : ℕ) (words : List ℕ) (i : ℕ) → rowsBytes n 1 (suc i) words ≡ rowsBytes n 1 i words ++ rowBytes (i + 1) (rowOf n i words)
 file-grows n words i =
     let number : 1 + i ≡ i + 1 = omega arith in
     rw (rows-grow n 1 i words, number)
@@ -107,6 +107,9 @@ module _ (reading n : ℕ) (words : List ℕ) {bytes : List ℕ} (held : length 
     unfolding sheetFile
     file-written rows = written-next (headBytes reading n) (rowsBytes n 1 n words) file-room head rows
 
--- Row i ends within the sheet, which is short.
-pub row-inside : {n i : ℕ} (words : List ℕ) → length words ≡ n * n → n ≤ 32 → i < n → (i * n + n ≤ length words) × (length words ≤ 1024)
-row-inside {n} {i} words held few due = (rw held (omega (arith, suc-mul i n, mul-le-mul-right n due)), rw held (mul-le-mul few few))
+-- A sheet is short, and row i ends within it.
+pub short : {n held : ℕ} → held ≡ n * n → n ≤ 32 → held ≤ 1024
+short {n} e few = rw e (mul-le-mul few few)
+
+pub row-inside : {n i held : ℕ} → held ≡ n * n → i < n → i * n + n ≤ held
+row-inside {n} {i} e due = rw e (omega (arith, suc-mul i n, mul-le-mul-right n due))

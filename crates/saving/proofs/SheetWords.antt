@@ -1,8 +1,7 @@
 -- The words of a sheet's numbers, one by one.
-use Prim.Native.Nat.{ℕ, _*_, _≤_}
+use Prim.Native.Nat.{ℕ}
 use mathlib.Core.List.{List}
 use mathlib.Core.Path.{_≡_, sym}
-use native.Mathlib.Nat.{mul-le-mul}
 use lib.ListN.{length, take, getD, length-map, List·getD-map}
 use lib.Seq.{take-at}
 use lib.Ieee.{Float, binary64, toBits}
@@ -21,6 +20,3 @@ sheet-word numbers k other = sym (List·getD-map (λ number. toBits binary64 num
 -- They stand at the start of the area that was filled with them.
 pub words-taken : (numbers : List Float) {area : List ℕ} (before : List ℕ) → area ≡ filled pass (sheetWords numbers) before → take (length numbers) area ≡ sheetWords numbers
 words-taken numbers before e = rw e (take-at (sheetWords numbers) _ (length numbers) (length-sheet-words numbers))
-
-pub short-sheet : {n : ℕ} (numbers : List Float) → length numbers ≡ n * n → n ≤ 32 → length numbers ≤ 1024
-short-sheet numbers held few = rw held (mul-le-mul few few)

@@ -2,7 +2,7 @@
 use borrow.Author.Needs.{needs}
 use Rattle.definitions.specs.Saving.{sheetWords, savedNumbers}
 use Rattle.saving.proofs.SheetWords.{length-sheet-words}
-use Rattle.file.proofs.Saving.{not-saved, to-save, saved}
+use Rattle.file.proofs.SaveAnswers.{not-saved, to-save, saved}
 use Rattle.file.proofs.save_numbers.Statement.{statement}
 use Rattle.file.proofs.save_numbers.Tie as tie
 

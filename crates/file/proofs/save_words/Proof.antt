@@ -1,7 +1,7 @@
 -- `file::save_words` meets its contract. Assumes nothing.
 use borrow.Author.Needs.{needs}
 use mathlib.Core.Path.{refl}
-use Rattle.file.proofs.Saving.{not-saved, to-save, saved}
+use Rattle.file.proofs.SaveAnswers.{not-saved, to-save, saved}
 use Rattle.file.proofs.save_words.Statement.{statement}
 use Rattle.file.proofs.save_words.Tie as tie
 

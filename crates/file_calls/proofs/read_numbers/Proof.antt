@@ -1,7 +1,7 @@
 -- `file_calls::read_numbers` meets its contract. Assumes nothing.
 use borrow.Author.Needs.{needs}
 use Rattle.definitions.specs.File.{fileNumberArea}
-use Rattle.file_calls.proofs.Calls.{file-call}
+use Rattle.file_calls.proofs.FileCalls.{file-call}
 use Rattle.file_calls.proofs.read_numbers.Statement.{statement}
 use Rattle.file_calls.proofs.read_numbers.Tie as tie
 

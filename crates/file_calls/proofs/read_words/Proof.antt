@@ -1,7 +1,7 @@
 -- `file_calls::read_words` meets its contract. Assumes nothing.
 use borrow.Author.Needs.{needs}
 use Rattle.definitions.specs.File.{fileWordArea}
-use Rattle.file_calls.proofs.Calls.{file-call}
+use Rattle.file_calls.proofs.FileCalls.{file-call}
 use Rattle.file_calls.proofs.read_words.Statement.{statement}
 use Rattle.file_calls.proofs.read_words.Tie as tie
 

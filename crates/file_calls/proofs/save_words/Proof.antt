@@ -1,7 +1,7 @@
 -- `file_calls::save_words` meets its contract. Assumes nothing.
 use borrow.Author.Needs.{needs}
 use Rattle.definitions.specs.Saving.{savedWords}
-use Rattle.file_calls.proofs.Calls.{save-call}
+use Rattle.file_calls.proofs.FileCalls.{save-call}
 use Rattle.file_calls.proofs.save_words.Statement.{statement}
 use Rattle.file_calls.proofs.save_words.Tie as tie
 

@@ -1,6 +1,6 @@
 -- `hosts::yulanbowls_entry` meets its contract. Assumes nothing.
 use borrow.Author.Needs.{needs}
-use Rattle.hosts.proofs.Calls.{entry-call}
+use Rattle.hosts.proofs.HostCalls.{entry-call}
 use Rattle.hosts.proofs.yulanbowls_entry.Statement.{statement}
 use Rattle.hosts.proofs.yulanbowls_entry.Tie as tie
 

@@ -1,6 +1,6 @@
 -- `hosts::yulanbowls_report` meets its contract: an area that is too short is left alone, and any other gets the report. Assumes nothing.
 use borrow.Author.Needs.{needs}
-use Rattle.hosts.proofs.Calls.{report-short, report-written}
+use Rattle.hosts.proofs.HostCalls.{report-short, report-written}
 use Rattle.hosts.proofs.yulanbowls_report.Statement.{statement}
 use Rattle.hosts.proofs.yulanbowls_report.Tie as tie
 

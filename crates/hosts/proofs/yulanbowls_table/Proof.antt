@@ -1,6 +1,6 @@
 -- `hosts::yulanbowls_table` meets its contract. Assumes nothing.
 use borrow.Author.Needs.{needs}
-use Rattle.hosts.proofs.Calls.{table-call}
+use Rattle.hosts.proofs.HostCalls.{table-call}
 use Rattle.hosts.proofs.yulanbowls_table.Statement.{statement}
 use Rattle.hosts.proofs.yulanbowls_table.Tie as tie
 

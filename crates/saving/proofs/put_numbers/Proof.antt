@@ -3,14 +3,15 @@ use borrow.Author.Needs.{needs}
 use mathlib.Core.Path.{sym, ap, _∙_}
 use native.Mathlib.Omega.{arith}
 use lib.ListN.{length}
-use Rattle.saving.proofs.SheetWords.{short-sheet, words-taken, length-sheet-words}
+use Rattle.saving.proofs.FileBytes.{short}
+use Rattle.saving.proofs.SheetWords.{words-taken, length-sheet-words}
 use Rattle.saving.proofs.put_numbers.Statement.{statement}
 use Rattle.saving.proofs.put_numbers.Tie as tie
 
 to-words-requires : tie.Need-to-words-requires
 to-words-requires c κs =
     let start = c .before .before .before in
-    short-sheet (start .args .sheet .now) (start .pre .0) (start .pre .1)
+    short (start .pre .0) (start .pre .1)
 
 put-sheet-requires : tie.Need-put-sheet-requires
 put-sheet-requires c κs =
@@ -31,7 +32,7 @@ put-numbers-spec =
     (tie.spec
     (λ c. search needs)
     to-words-requires
-    (λ c. let start = c .before .before .before .before .before in omega (arith, short-sheet (start .args .sheet .now) (start .pre .0) (start .pre .1)))
+    (λ c. let start = c .before .before .before .before .before in omega (arith, short (start .pre .0) (start .pre .1)))
     (λ c. sym (ap length (words-taken (c .before .before .before .before .before .before .args .sheet .now) _ (c .before .before .to-words .ensures)) ∙ length-sheet-words _))
     put-sheet-requires
     (λ c. search needs)

@@ -8,14 +8,14 @@ use Rattle.definitions.specs.Saving.{rowBytes, rowsBytes, sheetFile}
 use Rattle.buffer.specs.Pasted.{Room, Written}
 use Rattle.buffer.proofs.Growing.{Turn, turn}
 use Rattle.buffer.proofs.Pasting.{length-written, written-at-start}
-use Rattle.saving.proofs.FileBytes.{rowWords, rows-begun, file-grows, head-room, rows-room, whole-room, file-written, row-inside}
+use Rattle.saving.proofs.FileBytes.{rowOf, rows-begun, file-grows, head-room, rows-room, whole-room, file-written, short, row-inside}
 use Rattle.saving.proofs.put_sheet.Statement.{statement}
 use Rattle.saving.proofs.put_sheet.Tie as tie
 
 -- A turn writes one row more.
 row-turn : (n : ℕ) (words : List ℕ) {at i next : ℕ} {out after : List ℕ} → Room (rowsBytes n 1 n words) at out → i < n → Written (rowsBytes n 1 i words) at out after next
-    → Turn (rowBytes (i + 1) (rowWords n i words)) (rowsBytes n 1 (i + 1) words) at out next after
-row-turn n words room due so-far = turn (λ i. rowsBytes n 1 i words) (λ i. rowBytes (i + 1) (rowWords n i words)) n (λ i h. file-grows n words i) room due so-far
+    → Turn (rowBytes (i + 1) (rowOf n i words)) (rowsBytes n 1 (i + 1) words) at out next after
+row-turn n words room due so-far = turn (λ i. rowsBytes n 1 i words) (λ i. rowBytes (i + 1) (rowOf n i words)) n (λ i h. file-grows n words i) room due so-far
 
 abbrev Inv-loop : tie.InvT-loop
 Inv-loop reading n words out₀ at₀ i₀ out at i = (i ≤ n) × Written (rowsBytes n 1 i words) at₀ out₀ out at
@@ -33,7 +33,7 @@ inside : (c : tie.In-loop Inv-loop μ-loop)
     × (length (c .before .before .before .before .before .before .before .before .args .words .now) ≤ 1024)
 inside c =
     let start = c .before .before .before .before .before .before .before .before in
-    row-inside (start .args .words .now) (start .pre .0) (start .pre .1) (c .loop-test .taken)
+    (row-inside (start .pre .0) (c .loop-test .taken), short (start .pre .0) (start .pre .1))
 
 put-row-requires : tie.Need-put-row-requires Inv-loop μ-loop
 put-row-requires c κs =
