@@ -11,17 +11,23 @@ ghost use Rattle.tables.specs.Operators.{between, span};
 ghost use Rattle.passes.specs.Stages.{stagesDone, stagesInRange, overPivot, upwardRows, upwardRowInRange};
 ghost use Rattle.downward.specs.Downward.{onDiagonal, SharedTable};
 
-// Every stage, and whether their steps are in range.
+// Every stage, two at a time and then the one that is left, and whether their steps are in range.
 fn stages(r: usize, t: &mut [f64; 1024]) -> bool
     requires { ⌜ (r ≤ 32) × IsTable (now t) ⌝ }
     ensures { λ ok. let f = table (now (t .entry)) in ⌜ Gives ok (stagesInRange r f r) (now (t .exit)) (stagesDone r f r) ⌝ }
 {
     let mut ok = true;
-    for k in 0..r {
-        let told = stage::eliminate(r, k, t);
+    let mut k = 0;
+    while k + 1 < r {
+        let told = stage::eliminate_pair(r, k, t);
         ok = ok & told;
+        k += 2;
     }
-    ok
+    if k == r {
+        return ok;
+    }
+    let told = stage::last(r, k, t);
+    ok & told
 }
 
 // The pivots side by side, since a row's divisors stand on the diagonal, one in each row.

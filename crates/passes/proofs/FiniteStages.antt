@@ -21,8 +21,8 @@ use Rattle.tables.specs.RowMajor.{IsTable, table, Holds, Gives}
 use Rattle.passes.specs.Told.{Told}
 use Rattle.passes.specs.Multipliers.{systemIn}
 use Rattle.passes.specs.Stages.{rowTest, rowTests, stageDone, stagesDone, stagesInRange}
-use Rattle.passes.specs.StageTests.{RowFinite, StageFinite, pivotTested, stageTested, StageFinds}
-use Rattle.passes.proofs.Told.{ToldEach, told-same, told-begins, told-turns, told-ends}
+use Rattle.passes.specs.StageTests.{RowFinite, StageFinite, pivotTested, stageTested, StageFinds, PairFinds}
+use Rattle.passes.proofs.Told.{ToldEach, told-same, told-begins, told-turns, told-turns-twice, told-ends}
 use Rattle.passes.proofs.FinitePivots.{exit-of-pivot, size-of-pivot, finite-in-range, alone-in-range, last-pivot, in-range-finite}
 use Rattle.passes.proofs.StagePlaces.{exit-place, size-place}
 
@@ -192,6 +192,19 @@ module _ {r : ℕ} {f : ℕ → ℕ → Float} {k : ℕ} {ok : Bool} {xs : List 
         holds = rw (add-one k) (s .holds);
         told = told-turns (h .told) (s .told);
         tested = λ t l m. by-equal l k (λ e. rw e (s .tested (and-r ok now t))) (λ n. h .tested (and-l ok now t) l (omega arith));
+      }
+
+  pub pair-turn : {now : Bool} {ys : List Float} → PairFinds r k (table xs) now ys → StagesTold r f (k + 2) (ok && now) ys
+  unfolding stagesDone
+  pair-turn {now} g =
+      let s : PairFinds r k (stagesDone r f k) now _ = rw (h .holds .is) at g in
+      let two : k + 2 ≡ suc (suc k) = omega arith in
+      record {
+        holds = rw two (s .holds);
+        told = told-turns-twice (h .told) (s .told);
+        tested = λ t l m.
+            let both = s .tested (and-r ok now t) in
+            by-equal l k (λ e. rw e (both .0)) (λ n. by-equal l (suc k) (λ e. rw e (both .1)) (λ o. h .tested (and-l ok now t) l (omega arith)));
       }
 
   pub stages-end : k ≤ r → r ≤ k → Gives ok (stagesInRange r f r) xs (stagesDone r f r)

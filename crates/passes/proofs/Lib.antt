@@ -2,6 +2,8 @@
 pub mod Told
 mod FinitePivots
 mod StagePlaces
+mod PairRow
+pub mod PairStages
 pub mod SharedSteps
 pub mod FiniteStages
 pub mod RowPass

@@ -9,7 +9,7 @@ use Rattle.steps.proofs.TableLaws.{stored-at, storedTable-at}
 use Rattle.steps.proofs.Same.{Same}
 use Rattle.tables.specs.Operators.{replace, between, put}
 use Rattle.tables.specs.Rows.{plusMultiple}
-use Rattle.tables.proofs.Operators.{replace-same, replace-other, between-in, between-low}
+use Rattle.tables.proofs.Operators.{replace-same, replace-other, between-in, between-low, between-past}
 use Rattle.passes.specs.Multipliers.{systemIn}
 use Rattle.passes.specs.Stages.{multiplierRow, multipliedRows, eliminatedRow, eliminatedRows, stageDone}
 
@@ -36,19 +36,25 @@ module _ (r k : ℕ) (f : ℕ → ℕ → Float) where
   unfolding stageDone put q multiplied done
   other-row i n = replace-other k (replace k q (done k)) done i n
 
-  pivot-row : stageDone r k f k ≡ replace k q (f k)
+  pub pivot-row : stageDone r k f k ≡ replace k (pivot r (systemIn f) k) (f k)
   unfolding stageDone put q multiplied done
   pivot-row = replace-same k (replace k q (done k)) done ∙ ap (replace k q) (before-done k (omega arith))
 
   pub pivot-place : stageDone r k f k k ≡ pivot r (systemIn f) k
-  unfolding q
-  pivot-place = ap (λ (row : ℕ → Float). row k) pivot-row ∙ replace-same k q (f k)
+  pivot-place = ap (λ (row : ℕ → Float). row k) pivot-row ∙ replace-same k (pivot r (systemIn f) k) (f k)
 
   pub pivot-row-keeps : (j : ℕ) → (j ≡ k → ⊥) → stageDone r k f k j ≡ f k j
-  pivot-row-keeps j n = ap (λ (row : ℕ → Float). row j) pivot-row ∙ replace-other k q (f k) j n
+  pivot-row-keeps j n = ap (λ (row : ℕ → Float). row j) pivot-row ∙ replace-other k (pivot r (systemIn f) k) (f k) j n
 
   pub earlier-row-keeps : (i : ℕ) → i < k → stageDone r k f i ≡ f i
   earlier-row-keeps i l = other-row i (λ e. omega arith) ∙ before-done i (omega arith)
+
+  pub past-row-keeps : k < r → (i : ℕ) → r ≤ i → stageDone r k f i ≡ f i
+  unfolding done multiplied multipliedRows eliminatedRows
+  past-row-keeps h i l =
+      other-row i (λ e. omega arith)
+      ∙ between-past (suc k) r (eliminatedRow r k (f k k) multiplied) multiplied i l
+      ∙ between-past (suc k) r (multiplierRow k q f) f i l
 
   -- Row i after it, with its multiplier m in column k.
   module _ (i : ℕ) (l : k < i) (h : i < r) where
@@ -65,9 +71,13 @@ module _ (r k : ℕ) (f : ℕ → ℕ → Float) where
     at-k : multiplied i k ≡ m
     at-k = ap (λ (row : ℕ → Float). row k) row-multiplied ∙ replace-same k m (f i)
 
+    pub later-row : stageDone r k f i ≡ eliminatedRow r k (f k k) (multipliedRows k (pivot r (systemIn f) k) r f) i
+    unfolding done multiplied q eliminatedRows
+    later-row = other-row i (λ e. omega arith) ∙ between-in (suc k) r (eliminatedRow r k (f k k) multiplied) multiplied i l h
+
     row-done : (j : ℕ) → stageDone r k f i j ≡ eliminatedRow r k (f k k) multiplied i j
-    unfolding done eliminatedRows
-    row-done j = ap (λ (row : ℕ → Float). row j) (other-row i (λ e. omega arith) ∙ between-in (suc k) r (eliminatedRow r k (f k k) multiplied) multiplied i l h)
+    unfolding multiplied q
+    row-done j = ap (λ (row : ℕ → Float). row j) later-row
 
     sums : ℕ → Float
     sums = between (suc k) r (plusMultiple (multiplied i k) (multiplied i) (multiplied k)) (multiplied i)

@@ -1,6 +1,6 @@
 -- Tests that tell the document's: how a loop gathers them, and what they come to where the results are known.
 use mathlib.Core.Path.{_≡_}
-use Prim.Native.Nat.{ℕ, _+_, _-_, _≤_, _<_}
+use Prim.Native.Nat.{ℕ, suc, _+_, _-_, _≤_, _<_}
 use native.Mathlib.Nat.{le-refl, le-antisymm}
 use native.Mathlib.Omega.{arith}
 use mathlib.Core.Bool.{Bool, true, _&&_}
@@ -48,6 +48,21 @@ module _ {test : ℕ → Bool} {F : ℕ → Type 0} {lo j : ℕ} {ok : Bool} (h 
         tells = λ f t i l m. by-equal i j
             (λ e. rw e (k .tells (f j (h .from) (omega arith)) (and-r ok now t)))
             (λ n. h .tells (λ i' l' m'. f i' l' (omega arith)) (and-l ok now t) i l (omega arith));
+      }
+
+  -- Two turns at once.
+  pub told-turns-twice : {now : Bool} → Told now (test j && test (suc j)) (F j × F (suc j)) → ToldEach test F lo (j + 2) (ok && now)
+  told-turns-twice {now} k =
+      record {
+        from = omega (arith, h .from);
+        passes = λ f. and-i ok now (h .passes (λ i l m. f i l (omega arith))) (k .passes (and-i (test j) (test (suc j)) (f j (h .from) (omega arith)) (f (suc j) (omega (arith, h .from)) (omega arith))));
+        tells = λ f t i l m.
+            let both = k .tells (f j (h .from) (omega arith), f (suc j) (omega (arith, h .from)) (omega arith)) (and-r ok now t) in
+            by-equal i j
+            (λ e. rw e (and-l (test j) (test (suc j)) both))
+            (λ n. by-equal i (suc j)
+            (λ e. rw e (and-r (test j) (test (suc j)) both))
+            (λ o. h .tells (λ i' l' m'. f i' l' (omega arith)) (and-l ok now t) i l (omega arith)));
       }
 
   pub told-ends : {hi : ℕ} → j ≤ hi → hi ≤ j → Told ok (all test lo (hi - lo)) ((i : ℕ) → lo ≤ i → i < hi → F i)

@@ -30,6 +30,24 @@ eliminatedRow r k s f i = replace i (f i i ⊕ f i k ⊗ s) (between (suc k) r (
 unfoldable pub eliminatedRows : ℕ → ℕ → Float → ℕ → (ℕ → ℕ → Float) → ℕ → ℕ → Float
 eliminatedRows r k s hi f = between (suc k) hi (eliminatedRow r k s f) f
 
+-- What stage k + 1 needs of stage k to begin, with the multipliers of stage k in column k: its own row, and its column in the later rows.
+unfoldable pub columnRow : ℕ → (ℕ → ℕ → Float) → ℕ → ℕ → Float
+columnRow k f i = replace (suc k) (f i (suc k) ⊕ f i k ⊗ f k (suc k)) (f i)
+
+unfoldable pub nextBegun : ℕ → ℕ → Float → (ℕ → ℕ → Float) → ℕ → ℕ → Float
+nextBegun r k s f = between (suc (suc k)) r (columnRow k f) (replace (suc k) (eliminatedRow r k s f (suc k)) f)
+
+-- Then, with the multipliers of both stages in their columns: row i with its multiples of both rows in the columns after k + 1, and its leaving rate after both stages.
+unfoldable pub plusTwo : Float → Float → (ℕ → Float) → (ℕ → Float) → (ℕ → Float) → ℕ → Float
+plusTwo m m' own first second j = own j ⊕ m ⊗ first j ⊕ m' ⊗ second j
+
+unfoldable pub pairRow : ℕ → ℕ → Float → Float → (ℕ → ℕ → Float) → ℕ → ℕ → Float
+pairRow r k s s' f i =
+    replace i (f i i ⊕ f i k ⊗ s ⊕ f i (suc k) ⊗ s') (between (suc (suc k)) r (plusTwo (f i k) (f i (suc k)) (f i) (f k) (f (suc k))) (f i))
+
+unfoldable pub pairRows : ℕ → ℕ → Float → Float → (ℕ → ℕ → Float) → ℕ → ℕ → Float
+pairRows r k s s' f = between (suc (suc k)) r (pairRow r k s s' f) f
+
 -- Stage k, which leaves its pivot on the diagonal; and the stages before k.
 unfoldable pub stageDone : ℕ → ℕ → (ℕ → ℕ → Float) → ℕ → ℕ → Float
 stageDone r k f = let p = pivot r (systemIn f) k in put k k p (eliminatedRows r k (f k k) r (multipliedRows k p r f))

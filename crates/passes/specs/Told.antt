@@ -1,21 +1,14 @@
 -- Range tests that look at fewer numbers than document 01: what such a test promises.
 use Prim.Native.Nat.{ℕ, _<_}
 use mathlib.Core.Bool.{Bool}
-use mathlib.Core.List.{List}
 use lib.Dec.{T}
 use lib.Ieee.{Float}
 use Rattle.definitions.specs.Numbers.{finite}
-use Rattle.tables.specs.RowMajor.{Holds}
 
 -- ok is true where the document's test is, and where the results named by F are finite it is true nowhere else.
 pub record Told (ok test : Bool) (F : Type 0) : Type 0 where
   pub passes : T test → T ok
   pub tells : F → T ok → T test
-
--- A function that changes a working table, and tells so of its steps.
-pub record Finds (ok test : Bool) (F : Type 0) (xs : List Float) (f : ℕ → ℕ → Float) : Type 0 where
-  pub told : Told ok test F
-  pub holds : Holds xs f
 
 -- The first c numbers of a row, and the r × r places of a table, are finite.
 abbrev pub FiniteRow : ℕ → (ℕ → Float) → Type 0

@@ -11,9 +11,7 @@ ghost use Rattle.definitions.specs.Numbers.{_⊗_, _⊘_, smallest, all};
 ghost use Rattle.tables.specs.RowMajor.{IsTable, table};
 ghost use Rattle.tables.specs.Rows.{timesInRange};
 ghost use Rattle.bounds.specs.Bounds.{Covering};
-ghost use Rattle.passes.specs.Told.{Told};
-ghost use Rattle.passes.specs.Stages.{rowTest};
-ghost use Rattle.passes.specs.StageTests.{RowFinite, pivotTested};
+ghost use Rattle.passes.specs.StageTests.{RowTold, pivotTested};
 ghost use Rattle.ranges.specs.Quick.{QuickMultiplier, QuickRow};
 
 // Whether m times the bound lo is above 2^-1022.
@@ -54,10 +52,11 @@ pub fn products_in_range(k: usize, m: f64, lo: usize, hi: usize, a: &[f64; 1024]
     ok
 }
 
-// Row i at stage k, whose pivot is p and whose multiplier m: lo bounds row k's running sum and sizes.
+// Row i at stage k, whose pivot is p and whose multiplier m: lo bounds row k's running sum and sizes. Of row i
+// it looks at column k alone.
 pub fn row_told(r: usize, k: usize, i: usize, p: f64, m: f64, lo: f64, t: &[f64; 1024]) -> bool
     requires { ⌜ (k < i) × (i < r) × (r ≤ 32) × IsTable (now t) × (m ≡ table (now t) i k ⊘ p) × Covering lo (table (now t) k) k r ⌝ }
-    ensures { λ ok. let f = table (now (t .entry)) in ⌜ Told ok (rowTest r k i p (f i) (f k)) (RowFinite r k i p (f i) (f k)) ⌝ }
+    ensures { λ ok. let f = table (now (t .entry)) in ⌜ RowTold r k i p (f i k) (f k) ok ⌝ }
 {
     let x = row::get(i, k, t);
     if x == 0.0 {

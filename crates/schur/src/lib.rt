@@ -1,10 +1,10 @@
-// A stage's running sum and pivot, and the new sizes and leaving rates of its rows (the Schur complement), on the
-// table t of sizes and leaving rates.
+// A stage's running sum and pivot, and the new sizes and leaving rates of the rows of two stages (the Schur
+// complement), on the table t of sizes and leaving rates.
 use tables::row;
-ghost use Prim.Native.Nat.{_≤_, _<_};
+ghost use Prim.Native.Nat.{suc, _≤_, _<_};
 ghost use Rattle.tables.specs.RowMajor.{IsTable, table, Holds};
-ghost use Rattle.tables.specs.Operators.{replace};
-ghost use Rattle.passes.specs.Stages.{IsStage, eliminatedRow, eliminatedRows};
+ghost use Rattle.tables.specs.Operators.{replace, span};
+ghost use Rattle.passes.specs.Stages.{IsStage, eliminatedRow, nextBegun, plusTwo, pairRow, pairRows};
 
 // A stage's running sum s and pivot p.
 pub struct Stage {
@@ -38,11 +38,52 @@ fn eliminate_row(r: usize, k: usize, i: usize, stage: Stage, t: &mut [f64; 1024]
     row::put(i, i, s, t);
 }
 
-pub fn eliminate_rows(r: usize, k: usize, stage: Stage, t: &mut [f64; 1024])
-    requires { ⌜ (k < r) × (r ≤ 32) × IsTable (now t) ⌝ }
-    ensures { λ _. ⌜ Holds (now (t .exit)) (eliminatedRows r k (stage .s) r (table (now (t .entry)))) ⌝ }
+// What stage k + 1 needs of stage k to begin: its own row, and its column in the later rows.
+pub fn begin_next(r: usize, k: usize, stage: Stage, t: &mut [f64; 1024])
+    requires { ⌜ (suc k < r) × (r ≤ 32) × IsTable (now t) ⌝ }
+    ensures { λ _. ⌜ Holds (now (t .exit)) (nextBegun r k (stage .s) (table (now (t .entry)))) ⌝ }
 {
-    for i in k + 1..r {
-        eliminate_row(r, k, i, stage, t);
+    eliminate_row(r, k, k + 1, stage, t);
+    let y = row::get(k, k + 1, t);
+    for i in k + 2..r {
+        let x = row::get(i, k + 1, t);
+        let m = row::get(i, k, t);
+        row::put(i, k + 1, x + m * y, t);
+    }
+}
+
+// Adds a times row k and then b times row k + 1 to row i, in the columns from lo up to hi. Each number is
+// loaded and stored once for both.
+fn add_two(i: usize, k: usize, a: f64, b: f64, lo: usize, hi: usize, t: &mut [f64; 1024])
+    requires { ⌜ (suc k < i) × (i < 32) × (lo ≤ hi) × (hi ≤ 32) × IsTable (now t) ⌝ }
+    ensures { λ _. let f = table (now (t .entry)) in ⌜ Holds (now (t .exit)) (span i lo hi (plusTwo a b (f i) (f k) (f (suc k))) f) ⌝ }
+{
+    for j in lo..hi {
+        let x = row::get(i, j, t);
+        let y = row::get(k, j, t);
+        let z = row::get(k + 1, j, t);
+        row::put(i, j, x + a * y + b * z, t);
+    }
+}
+
+// Row i at stages k and k + 1, whose multipliers stand in their columns; its new s_i as in `eliminate_row`.
+fn eliminate_twice(r: usize, k: usize, i: usize, first: Stage, second: Stage, t: &mut [f64; 1024])
+    requires { ⌜ (suc k < i) × (i < r) × (r ≤ 32) × IsTable (now t) ⌝ }
+    ensures { λ _. let f = table (now (t .entry)) in ⌜ Holds (now (t .exit)) (replace i (pairRow r k (first .s) (second .s) f i) f) ⌝ }
+{
+    let a = row::get(i, k, t);
+    let b = row::get(i, k + 1, t);
+    let sum = row::get(i, i, t) + a * first.s + b * second.s;
+    add_two(i, k, a, b, k + 2, r, t);
+    row::put(i, i, sum, t);
+}
+
+// The rows after k + 1 at both stages.
+pub fn eliminate_pair(r: usize, k: usize, first: Stage, second: Stage, t: &mut [f64; 1024])
+    requires { ⌜ (suc k < r) × (r ≤ 32) × IsTable (now t) ⌝ }
+    ensures { λ _. ⌜ Holds (now (t .exit)) (pairRows r k (first .s) (second .s) (table (now (t .entry)))) ⌝ }
+{
+    for i in k + 2..r {
+        eliminate_twice(r, k, i, first, second, t);
     }
 }

@@ -1,42 +1,96 @@
--- The laws behind one stage: its multipliers, and the whole.
-use mathlib.Core.Path.{_≡_, refl, ap, _∙_}
-use Prim.Native.Nat.{ℕ, suc, _+_}
+-- The laws behind the stages: one up to its multipliers, and two at once.
+use mathlib.Core.Path.{_≡_, refl, sym, ap, _∙_}
+use Prim.Native.Nat.{ℕ, suc, _+_, _<_}
 use native.Mathlib.Nat.{le-refl}
+use native.Mathlib.Numerals.{add-one}
+use native.Mathlib.Omega.{arith}
 use mathlib.Core.Bool.{Bool, _&&_}
 use mathlib.Core.List.{List}
+use lib.Dec.{T}
 use lib.Ieee.{Float}
-use lib.Ieee.Fits.{and-l}
+use lib.Ieee.Fits.{and-l, and-r}
 use Rattle.definitions.specs.Numbers.{_⊘_}
+use Rattle.definitions.specs.LeavingRates.{pivot}
 use Rattle.tables.specs.RowMajor.{table, Holds}
 use Rattle.tables.specs.Operators.{put}
-use Rattle.tables.proofs.Loops.{Down, down-due, down-puts}
-use Rattle.passes.specs.Told.{Told, Finds}
-use Rattle.passes.specs.Stages.{IsStage, rowTest, rowTests, multiplierRow, multipliedRows, eliminatedRows, stageDone}
-use Rattle.passes.specs.StageTests.{RowFinite, StageFinite, pivotTested, stageTested, StageFinds}
+use Rattle.tables.proofs.Loops.{Down, down-due, down-else, down-puts}
+use Rattle.passes.specs.Told.{Told}
+use Rattle.passes.specs.Multipliers.{systemIn}
+use Rattle.passes.specs.Stages.{IsStage, rowTest, multiplierRow, multipliedRows, nextBegun, pairRows, stageDone}
+use Rattle.passes.specs.StageTests.{RowFinite, RowTold, Alike, RowsTold, pivotTested, stageTested, StageFinite, StageBegins, StageFinds, PairFinds}
 use Rattle.passes.proofs.Told.{told-from, told-both, told-exactly}
-use Rattle.schur.proofs.SchurRows.{pivot-row}
+use Rattle.passes.proofs.PairStages.{next-stage, alike, pair-done, next-done}
 
--- Down the rows after k. Row k is as at the start.
-module _ {k : ℕ} {g f : ℕ → ℕ → Float} {xs : List Float} {i : ℕ} (h : Down (suc k) g f xs i) where
-  pub row-told : (r : ℕ) (p : Float) {ok : Bool} → Told ok (rowTest r k i p (table xs i) (table xs k)) (RowFinite r k i p (table xs i) (table xs k)) → Told ok (rowTest r k i p (f i) (f k)) (RowFinite r k i p (f i) (f k))
-  row-told r p t = rw (down-due h i (le-refl i), pivot-row h) at t
+-- Down the rows after k: the row that is due, and row k, are as at the start.
+module _ {k : ℕ} {f : ℕ → ℕ → Float} {xs : List Float} {i : ℕ} (p : Float) (h : Down (suc k) (multiplierRow k p f) f xs i) where
+  pub multiplied-turns : {m : Float} {ys : List Float} → Holds ys (put i k m (table xs)) → m ≡ table xs i k ⊘ p → Down (suc k) (multiplierRow k p f) f ys (i + 1)
+  unfolding multiplierRow
+  multiplied-turns w e = down-puts h k w (e ∙ ap (λ (row : ℕ → Float). row k ⊘ p) (down-due h i (le-refl i))) refl
 
-pub multiplied-turns : {k : ℕ} {f : ℕ → ℕ → Float} {xs : List Float} {i : ℕ} (p : Float) → Down (suc k) (multiplierRow k p f) f xs i → {m : Float} {ys : List Float} → Holds ys (put i k m (table xs)) → m ≡ table xs i k ⊘ p → Down (suc k) (multiplierRow k p f) f ys (i + 1)
-unfolding multiplierRow
-multiplied-turns {k} {f} {xs} {i} p h w e = down-puts h k w (e ∙ ap (λ (row : ℕ → Float). row k ⊘ p) (down-due h i (le-refl i))) refl
+  pub row-told : (r : ℕ) (g : ℕ → ℕ → Float) {ok : Bool} → i < r → Alike r k f g → RowTold r k i p (table xs i k) (table xs k) ok → Told ok (rowTest r k i p (g i) (g k)) (RowFinite r k i p (g i) (g k))
+  row-told r g l a t =
+      rw (down-else h k (λ m n. omega arith), ← a .row) at (t (g i) (a .column i (h .from) l ∙ sym (ap (λ (row : ℕ → Float). row k) (down-due h i (le-refl i)))))
 
--- The stage: its pivot's test, its multipliers, its rows, its pivot.
-pub stage-eliminated : (r k : ℕ) (f : ℕ → ℕ → Float) {s p : Float} {pivots rows : Bool} {xs ys zs : List Float}
+-- A stage up to its multipliers.
+pub stage-begins : (r k : ℕ) (f : ℕ → ℕ → Float) {s p : Float} {pivots rows : Bool} {xs : List Float}
     → IsStage r k f s p
     → pivots ≡ pivotTested r p
-    → Finds rows (rowTests r k p f) (StageFinite r k p f) xs (multipliedRows k p r f)
-    → Holds ys (eliminatedRows r k s r (table xs))
-    → Holds zs (put k k p (table ys))
-    → StageFinds r k f (pivots && rows) zs
-unfolding stageDone stageTested
-stage-eliminated r k f {s} {p} {pivots} {rows} e t h₁ h₂ h₃ =
+    → RowsTold r k p f rows
+    → Holds xs (multipliedRows k p r f)
+    → StageBegins r k f s p (pivots && rows) xs
+stage-begins r k f {s} {p} {pivots} {rows} e t told holds =
     record {
-      told = rw (e .pivots) at (told-from (told-both (told-exactly t) (h₁ .told)) (λ g. (g, g)));
-      tested = λ u. rw (← e .pivots, ← t) (and-l pivots rows u);
-      holds = record { long = h₃ .long; is = h₃ .is ∙ rw (h₂ .is, h₁ .holds .is, e .sum, e .pivots) };
+      stage = e;
+      told = λ g a. told-from (told-both (told-exactly t) (told g a)) (λ h. (h, h));
+      tested = λ u. rw (← t) (and-l pivots rows u);
+      holds = holds;
     }
+
+-- What its tests tell of it in any table that they cannot tell apart from its own.
+module _ {r k : ℕ} {f : ℕ → ℕ → Float} {s p : Float} {ok : Bool} {xs : List Float} (h : StageBegins r k f s p ok xs) where
+  stage-told : (g : ℕ → ℕ → Float) → p ≡ pivot r (systemIn g) k → Alike r k f g → Told ok (stageTested r k g) (StageFinite r k (pivot r (systemIn g) k) g)
+  unfolding stageTested
+  stage-told g e a = rw e at (h .told g a)
+
+  own-told : Told ok (stageTested r k f) (StageFinite r k (pivot r (systemIn f) k) f)
+  own-told = stage-told f (h .stage .pivots) (record { row = refl; column = λ i a b. refl })
+
+  stage-tested : {q : Float} → p ≡ q → T ok → T (pivotTested r q)
+  stage-tested e t = rw e at (h .tested t)
+
+-- Stage k up to its multipliers, and what stage k + 1 needs of it.
+module _ (r k : ℕ) (f : ℕ → ℕ → Float) {s p : Float} {first : Bool} {xs ys : List Float} (a : StageBegins r k f s p first xs) (n : Holds ys (nextBegun r k s (table xs))) where
+  begun : table ys ≡ nextBegun r k (f k k) (multipliedRows k (pivot r (systemIn f) k) r f)
+  begun = n .is ∙ rw (a .holds .is, a .stage .sum, a .stage .pivots)
+
+  -- Then stage k + 1 up to its multipliers, the later rows, the pivots.
+  pub pair-eliminated : {s' p' : Float} {second : Bool} {zs us vs ws : List Float}
+      → suc k < r
+      → StageBegins r (k + 1) (table ys) s' p' second zs
+      → Holds us (pairRows r k s s' (table zs))
+      → Holds vs (put k k p (table us))
+      → Holds ws (put (k + 1) (k + 1) p' (table vs))
+      → PairFinds r k f (first && second) ws
+  pair-eliminated {s'} {p'} {second} {zs} l b h₁ h₂ h₃ =
+      let c : StageBegins r (suc k) (nextBegun r k (f k k) (multipliedRows k (pivot r (systemIn f) k) r f)) s' p' second zs = rw (add-one k, begun) at b in
+      let next = next-stage r k f l (c .stage) in
+      record {
+        told = told-both (own-told a) (stage-told c (stageDone r k f) (next .pivots) (alike r k f l));
+        tested = λ u. (stage-tested a (a .stage .pivots) (and-l first second u), stage-tested c (next .pivots) (and-r first second u));
+        holds =
+            record {
+              long = h₃ .long;
+              is = h₃ .is ∙ rw (h₂ .is, h₁ .is, c .holds .is, a .stage .sum, a .stage .pivots, next .sum, next .pivots, add-one k) (pair-done r k f l);
+            };
+      }
+
+  -- Or, where no rows are left, the pivot, and the last stage.
+  pub pair-last : {second : Bool} {zs : List Float} → suc (suc k) ≡ r → Holds zs (put k k p (table ys)) → StageFinds r (k + 1) (table zs) second zs → PairFinds r k f (first && second) zs
+  pair-last {second} {zs} e h b =
+      let done : table zs ≡ stageDone r k f = h .is ∙ rw (begun, a .stage .pivots) (next-done r k f e) in
+      let c : StageFinds r (suc k) (stageDone r k f) second zs = rw (add-one k, done) at b in
+      record {
+        told = told-both (own-told a) (c .told);
+        tested = λ u. (stage-tested a (a .stage .pivots) (and-l first second u), c .tested (and-r first second u));
+        holds = c .holds;
+      }

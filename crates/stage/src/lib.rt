@@ -1,20 +1,20 @@
-// One stage of the steps that serve every column of b, on the table t of sizes and leaving rates: s_i
-// stands at place (i, i) until stage i is done, and p_i afterwards; the multiplier of row i at stage k
-// takes the place (i, k), which no later step reads as a size.
+// The stages of the steps that serve every column of b, two at a time, on the table t of sizes and leaving
+// rates: s_i stands at place (i, i) until stage i is done, and p_i afterwards; the multiplier of row i at
+// stage k takes the place (i, k), which no later step reads as a size.
 use schur::Stage;
 use tables::row;
-ghost use Prim.Native.Nat.{_≤_, _<_};
-ghost use Rattle.tables.specs.RowMajor.{IsTable, table};
+ghost use mathlib.Core.Path.{_≡_};
+ghost use Prim.Native.Nat.{suc, _≤_, _<_};
+ghost use Rattle.tables.specs.RowMajor.{IsTable, table, Holds};
 ghost use Rattle.bounds.specs.Bounds.{Covering};
-ghost use Rattle.passes.specs.Told.{Finds};
-ghost use Rattle.passes.specs.Stages.{rowTests, multipliedRows};
-ghost use Rattle.passes.specs.StageTests.{StageFinite, StageFinds};
+ghost use Rattle.passes.specs.Stages.{multipliedRows};
+ghost use Rattle.passes.specs.StageTests.{RowsTold, StageBegins, StageFinds, PairFinds};
 
 // The multipliers of stage k's rows, and whether the rows' steps are in range. They have a loop of their
-// own, since the sums of a row would wait for its division.
+// own, since the sums of a row would wait for its division. Of the rows they look at column k alone.
 fn multipliers(r: usize, k: usize, stage: Stage, lo: f64, t: &mut [f64; 1024]) -> bool
     requires { ⌜ (k < r) × (r ≤ 32) × IsTable (now t) × Covering lo (table (now t) k) k r ⌝ }
-    ensures { λ ok. let f = table (now (t .entry)) in ⌜ Finds ok (rowTests r k (stage .p) f) (StageFinite r k (stage .p) f) (now (t .exit)) (multipliedRows k (stage .p) r f) ⌝ }
+    ensures { λ ok. let f = table (now (t .entry)) in ⌜ RowsTold r k (stage .p) f ok × Holds (now (t .exit)) (multipliedRows k (stage .p) r f) ⌝ }
 {
     let mut ok = true;
     for i in k + 1..r {
@@ -26,17 +26,54 @@ fn multipliers(r: usize, k: usize, stage: Stage, lo: f64, t: &mut [f64; 1024]) -
     ok
 }
 
-// Stage k, and whether its pivot is finite and its rows' steps are in range. The answer is left open
-// where a result of the rows is not finite.
-pub fn eliminate(r: usize, k: usize, t: &mut [f64; 1024]) -> bool
+// A stage that has begun, and whether its pivot is finite and its rows' steps are in range.
+struct Begun {
+    stage: Stage,
+    ok: bool,
+}
+
+// Stage k up to its multipliers. What it tells is left open where a result of the rows is not finite.
+fn begin(r: usize, k: usize, t: &mut [f64; 1024]) -> Begun
     requires { ⌜ (k < r) × (r ≤ 32) × IsTable (now t) ⌝ }
-    ensures { λ ok. ⌜ StageFinds r k (table (now (t .entry))) ok (now (t .exit)) ⌝ }
+    ensures { λ b. ⌜ StageBegins r k (table (now (t .entry))) (b .stage .s) (b .stage .p) (b .ok) (now (t .exit)) ⌝ }
 {
     let stage = schur::begin(r, k, t);
     let pivot = ranges::pivot_told(r, stage.p);
     let lo = bounds::least(1.0, k, k, r, t);
     let rows = multipliers(r, k, stage, lo, t);
-    schur::eliminate_rows(r, k, stage, t);
-    row::put(k, k, stage.p, t);
-    pivot & rows
+    Begun {
+        stage,
+        ok: pivot & rows,
+    }
+}
+
+// Stages k and k + 1, and whether their pivots are finite and their rows' steps are in range, as in `begin`.
+// Stage k does at first what stage k + 1 needs of it to begin, so that the later rows take both at once. Where
+// no rows are left, stage k + 1 is the last.
+pub fn eliminate_pair(r: usize, k: usize, t: &mut [f64; 1024]) -> bool
+    requires { ⌜ (suc k < r) × (r ≤ 32) × IsTable (now t) ⌝ }
+    ensures { λ ok. ⌜ PairFinds r k (table (now (t .entry))) ok (now (t .exit)) ⌝ }
+{
+    let first = begin(r, k, t);
+    schur::begin_next(r, k, first.stage, t);
+    if k + 2 == r {
+        row::put(k, k, first.stage.p, t);
+        let told = last(r, k + 1, t);
+        return first.ok & told;
+    }
+    let second = begin(r, k + 1, t);
+    schur::eliminate_pair(r, k, first.stage, second.stage, t);
+    row::put(k, k, first.stage.p, t);
+    row::put(k + 1, k + 1, second.stage.p, t);
+    first.ok & second.ok
+}
+
+// The last stage: whether its pivot is finite. It has no rows, and its pivot is its running sum, so the table
+// stays as it is.
+pub fn last(r: usize, k: usize, t: &[f64; 1024]) -> bool
+    requires { ⌜ (suc k ≡ r) × (r ≤ 32) × IsTable (now t) ⌝ }
+    ensures { λ ok. ⌜ StageFinds r k (table (now (t .entry))) ok (now (t .entry)) ⌝ }
+{
+    let p = row::get(k, k, t);
+    ranges::pivot_told(r, p)
 }
