@@ -1,12 +1,13 @@
 #!/usr/bin/env python3
-"""Times and errors of the proved table beside plain C and LAPACK, in one run on one machine.
+"""Times and errors of the proved table and column beside plain C and LAPACK, in one run on one machine.
 
-    python3 bench/run.py [--quick] [--no-errors] [--sizes 2,4,8] [--against libhosts.a]
+    python3 bench/run.py [--quick] [--no-errors] [--goals] [--sizes 2,4,8] [--against libhosts.a]
 
 builds the proved library (`rt staticlib hosts`), bench/steps.c and bench/time.c into target/bench, checks
-that all give the same bits and decisions, and prints three tables.  With --against the library of another
+that all give the same bits and decisions, and prints four tables.  With --against the library of another
 commit runs beside it, and the first table has the ratios.  Standard library only; nothing is installed.
-Exit status 1 if bits or decisions differ, or an error is above its allowance.
+Exit status 1 if bits or decisions differ, or an error is above its allowance; with --goals also if one column
+takes more of the whole table's time than it should, which other work on the machine can bring about.
 """
 from __future__ import annotations
 
@@ -35,7 +36,11 @@ COMMON = ["-std=c11", "-Wall", "-Wextra", "-ffp-contract=off"]
 VARIANTS = {"plain_O3": ["-O3"], "plain_O2": ["-O2"], "checked_O3": ["-O3", "-DCHECKED"],
             "checked_O2": ["-O2", "-DCHECKED"], "plain_native": ["-O3", "-march=native"]}
 OURS, OTHER, UNCHECKED, CHECKED, LAPACK = "yulanbowls", "other library", "C -O3", "checked C -O3", "LAPACK"
-DECIDES = [OURS, OTHER, "checked C -O3", "checked C -O2"]
+WHOLE, COLUMN, UNCHECKED_COLUMN, CHECKED_COLUMN = (
+    "yulanbowls, whole table", "yulanbowls, one column", "C -O3, one column", "checked C -O3, one column")
+ONE_COLUMN = [COLUMN, UNCHECKED_COLUMN, CHECKED_COLUMN]
+DECIDES = [OURS, OTHER, "checked C -O3", "checked C -O2", WHOLE, COLUMN, CHECKED_COLUMN]
+GOALS = {8: 0.7, 32: 0.55}      # the most of the whole table's time that one column takes, for these n
 UNIT = 2.0 ** -53
 
 failures: list[str] = []
@@ -112,18 +117,20 @@ class Group:
     sheets: list[Sheet]
     batches: int = 0
     matrices: Optional[list[list[float]]] = None    # A column by column, for LAPACK
+    stages: Optional[list[int]] = None              # for each sheet the one whose column is asked for
 
     def words(self) -> bytes:
         """What time.c reads."""
         matrices = self.matrices or [nearest_matrix(self.reading, self.n, sheet) for sheet in self.sheets]
         numbers = [x for sheet in [*self.sheets, *matrices] for x in sheet]
-        return struct.pack("<4Q", self.reading, self.n, len(self.sheets), self.batches) + \
+        stages = self.stages or [0] * len(self.sheets)
+        return struct.pack(f"<{4 + len(stages)}Q", self.reading, self.n, len(self.sheets), self.batches, *stages) + \
             struct.pack(f"<{len(numbers)}d", *numbers)
 
 
 @dataclass
 class Result:
-    """What one candidate did with a group: nanoseconds for a table, and for each sheet 0 or the refusal's
+    """What one candidate did with a group: nanoseconds for a call, and for each sheet 0 or the refusal's
     number with the answer row by row."""
     nanoseconds: float
     answers: list[tuple[int, list[float]]]
@@ -180,11 +187,13 @@ def check_answers(what: str, group: Group, found: dict[str, Result]) -> None:
     """The candidates beside the independent reference: the same decision where they make one, no number
     written where it is no, and the same bits where it is yes.  LAPACK has other bits."""
     for at, sheet in enumerate(group.sheets):
-        expected = reference.table(group.reading, group.n, sheet, group.n ** 2)
+        table = reference.table(group.reading, group.n, sheet, group.n ** 2)
+        column = group.stages and reference.column(group.reading, group.n, sheet, group.stages[at], group.n)
         for name in found.keys() - {LAPACK}:
             number, numbers = found[name].answers[at]
             where = f"{name}, {what}, reading {group.reading}, n = {group.n}, sheet {at + 1}"
-            if isinstance(expected, reference.Table):
+            expected = column if name in ONE_COLUMN else table
+            if not isinstance(expected, reference.Refused):
                 check(number == 0, f"{where}: refused with {number}")
                 check(bits(numbers) == bits(expected.entries), f"{where}: other bits than the reference")
             elif name in DECIDES:
@@ -200,6 +209,12 @@ def check_layout(group: Group, found: dict[str, Result]) -> None:
                   f"LAPACK, reading {group.reading}, n = {group.n}: not the same matrix")
 
 
+def without_matrices(group: Group) -> Group:
+    """The group with ones for A, whose entries may be beyond binary64; LAPACK's answer is not looked at."""
+    group.matrices = [[1.0] * group.n ** 2 for _ in group.sheets]
+    return group
+
+
 def edge_groups(rng: random.Random, pairs: int) -> list[Group]:
     """Sheets of reading 1 on either side of the edge of acceptance: one last place of one number apart, and
     a quotient and a product of exactly 2^-1022 beside twice that."""
@@ -210,9 +225,7 @@ def edge_groups(rng: random.Random, pairs: int) -> list[Group]:
         pair = reference.edge_pair(rng, 1, n, reference.random_sheet(rng, 1, n, reference.random_style(rng)))
         if pair is not None:
             groups.append(Group(1, n, list(pair)))
-    for group in groups:
-        group.matrices = [[1.0] * group.n ** 2 for _ in group.sheets]   # A may be beyond binary64
-    return groups
+    return [without_matrices(group) for group in groups]
 
 
 # ==== Tables ====
@@ -458,13 +471,66 @@ def part_errors(program: Path, sizes: Sequence[int]) -> None:
     print_table(head + (["LAPACK / u", "LAPACK", "zeros lost"] if len(rows[0]) > len(head) else []), rows)
 
 
+# ==== 4. The time of one column ====
+
+def column_groups(sizes: Sequence[int], batches: int) -> list[Group]:
+    """Three dense sheets for each size, of which the first, the middle and the last stage are asked for."""
+    groups = timing_groups(1, sizes, batches, lambda rng, n: sheets.dense(rng, n, 0.01))
+    return [without_matrices(Group(1, group.n, group.sheets[:3], batches, stages=[1, (group.n + 1) // 2, group.n]))
+            for group in groups]
+
+
+def column_edge_groups(rng: random.Random, pairs: int) -> list[Group]:
+    """Sheets on either side of the edge of one column's range, one last place of one number apart; often the
+    whole table is out of range for both."""
+    groups = [Group(1, 2, [[1.0, 0.0, 0.0, 2.0 ** 1022]] * 2, stages=[1, 2])]
+    while len(groups) < pairs:
+        n = rng.randint(1, 5)
+        stage = rng.randint(1, n)
+        pair = reference.edge_pair(rng, 1, n, reference.uneven_sheet(rng, n), stage)
+        if pair is not None:
+            groups.append(Group(1, n, list(pair), stages=[stage] * 2))
+    return [without_matrices(group) for group in groups]
+
+
+def print_goals(sizes: Sequence[int], times: Sequence[dict[str, Result]], must: bool) -> None:
+    """The goals for one column beside what was measured; they are checks where they must be met."""
+    for n, found in zip(sizes, times):
+        if n in GOALS:
+            ratio = found[COLUMN].nanoseconds / found[WHOLE].nanoseconds
+            met = ratio <= GOALS[n]
+            print(f"Goal at n = {n}: one column takes at most {GOALS[n]:.2f} of the whole table's time; it takes "
+                  f"{ratio:.3f}, {'met' if met else 'not met'}.")
+            check(met or not must, f"the goal for one column at n = {n}")
+    print(flush=True)
+
+
+def part_columns(program: Path, sizes: Sequence[int], batches: int, must: bool) -> None:
+    """One column beside the whole table."""
+    untimed, edges = column_groups(sizes, 0), column_edge_groups(random.Random(8), 40)
+    before = len(failures)
+    _, answers = run_groups(program, [*untimed, *edges])
+    for group, found in zip([*untimed, *edges], answers):
+        check_answers("one column", group, found)
+    _, times = run_groups(program, column_groups(sizes, batches))
+    print(f"4. Time of one column, reading 1, best of {batches} batches of at least 20 microseconds; the rows take\n"
+          "turns. Three dense sheets for each n, of which the first, the middle and the last stage are asked for in\n"
+          "turn; the first takes the most steps. C: bench/steps.c, the same steps, one column of b, no questions.\n")
+    if len(failures) == before:
+        print(f"Same bits and decisions as tools/reference.py on the {3 * len(untimed)} timing sheets and on "
+              f"{2 * len(edges)} sheets at\nthe edge of one column's range.\n")
+    print_times(sizes, times, [WHOLE, UNCHECKED_COLUMN])
+    print_goals(sizes, times, must)
+
+
 # ==== Command line ====
 
 def parsed(arguments: Sequence[str]) -> argparse.Namespace:
-    parser = argparse.ArgumentParser(description="Times and errors of the proved table, plain C and LAPACK.")
+    parser = argparse.ArgumentParser(description="Times and errors of the proved table and column, plain C and LAPACK.")
     parser.add_argument("--quick", action="store_true", help="few batches and small sheets, for a test")
     parser.add_argument("--no-errors", action="store_true", help="leave out the table of errors")
-    parser.add_argument("--sizes", default=None, metavar="N,N,..", help="the sizes of the first table")
+    parser.add_argument("--goals", action="store_true", help="fail if one column takes too much of the table's time")
+    parser.add_argument("--sizes", default=None, metavar="N,N,..", help="the sizes of the first table and the last")
     parser.add_argument("--against", type=Path, default=None, metavar="ARCHIVE", help="another commit's libhosts.a")
     options = parser.parse_args(arguments)
     try:
@@ -485,6 +551,7 @@ def main(arguments: Sequence[str]) -> int:
     part_slow_path(program, [8, 32], batches // 5)
     if not options.no_errors:
         part_errors(program, [4, 8] if options.quick else [4, 8, 16, 32])
+    part_columns(program, options.sizes, batches, options.goals)
     print(f"{len(failures)} checks failed" if failures else "All checks passed")
     return 1 if failures else 0
 

@@ -1,6 +1,6 @@
-/* The steps for leaving rates of document 01, in its order, in plain C. run.py compiles this file several
-   times: SUFFIX gives each build its own function name, and with CHECKED every range test of document 01
-   stands at its step. Questions 1 to 9 are not asked.
+/* The steps for leaving rates of document 01, in its order, in plain C: for the whole table, and for one column
+   of it. run.py compiles this file several times: SUFFIX gives each build its own function names, and with
+   CHECKED every range test of document 01 stands at its step. Questions 1 to 9 are not asked.
 
    The working tables have 32 numbers to a row. s stands apart from the sizes t, so the loop over a row may
    run over the diagonal place of t: no step reads that place. */
@@ -12,16 +12,33 @@
 #define JOINED(a, b) a##b
 #define JOIN(a, b) JOINED(a, b)
 
-/* t from the sheet's sizes, s from its diagonal, b the identity. A zero of either sign is plus zero. */
+/* Row i of t from the sheet's sizes, and s_i from its diagonal. A zero of either sign is plus zero. */
+static inline void load_row(size_t n, const double *restrict sheet, size_t i, double (*restrict t)[LIMIT],
+                            double *restrict s)
+{
+    for (size_t j = 0; j < n; j++)
+        t[i][j] = 0.0 - sheet[i * n + j];
+    s[i] = sheet[i * n + i] + 0.0;
+}
+
+/* All rows, and the identity for b. */
 static inline void load(size_t n, const double *restrict sheet, double (*restrict t)[LIMIT],
                         double (*restrict b)[LIMIT], double *restrict s)
 {
     for (size_t i = 0; i < n; i++) {
-        for (size_t j = 0; j < n; j++)
-            t[i][j] = 0.0 - sheet[i * n + j];
-        s[i] = sheet[i * n + i] + 0.0;
+        load_row(n, sheet, i, t, s);
         memset(b[i], 0, n * sizeof(double));
         b[i][i] = 1.0;
+    }
+}
+
+/* All rows, and one column of the identity for b. */
+static inline void load_column(size_t n, const double *restrict sheet, size_t column, double (*restrict t)[LIMIT],
+                               double *restrict b, double *restrict s)
+{
+    for (size_t i = 0; i < n; i++) {
+        load_row(n, sheet, i, t, s);
+        b[i] = i == column ? 1.0 : 0.0;
     }
 }
 
@@ -57,6 +74,32 @@ int JOIN(steps_, SUFFIX)(size_t n, const double *restrict sheet, double *restric
     for (size_t i = 0; i < n; i++)
         for (size_t j = 0; j < n; j++)
             answer[i * n + j] = b[i][j] / p[i];
+    return 1;
+}
+
+/* One column, counted from 0; 1 always. */
+int JOIN(column_, SUFFIX)(size_t n, const double *restrict sheet, size_t column, double *restrict answer)
+{
+    double t[LIMIT][LIMIT], b[LIMIT], s[LIMIT], p[LIMIT];
+    load_column(n, sheet, column, t, b, s);
+    for (size_t k = 0; k < n; k++) {
+        double pivot = s[k];
+        for (size_t j = k + 1; j < n; j++)
+            pivot += t[k][j];
+        p[k] = pivot;
+        for (size_t i = k + 1; i < n; i++) {
+            double m = t[i][k] / pivot;
+            s[i] += m * s[k];
+            add_multiple(n - (k + 1), m, &t[k][k + 1], &t[i][k + 1]);
+            if (k >= column)
+                b[i] += m * b[k];
+        }
+    }
+    for (size_t k = n - 1; k > 0; k--)
+        for (size_t i = 0; i < k; i++)
+            b[i] += t[i][k] / p[k] * b[k];
+    for (size_t i = 0; i < n; i++)
+        answer[i] = b[i] / p[i];
     return 1;
 }
 
@@ -138,6 +181,47 @@ int JOIN(steps_, SUFFIX)(size_t n, const double *restrict sheet, double *restric
         return 0;
     for (size_t i = 0; i < n; i++)
         memcpy(&answer[i * n], b[i], n * sizeof(double));
+    return 1;
+}
+
+/* One column, counted from 0; 1 where every step of it is in range, else 0 with no place changed. */
+int JOIN(column_, SUFFIX)(size_t n, const double *restrict sheet, size_t column, double *restrict answer)
+{
+    double t[LIMIT][LIMIT], b[LIMIT], s[LIMIT], p[LIMIT], flags[LIMIT] = {0.0}, flag = 0.0;
+    load_column(n, sheet, column, t, b, s);
+    for (size_t k = 0; k < n; k++) {
+        double pivot = s[k];
+        for (size_t j = k + 1; j < n; j++)
+            pivot += t[k][j];
+        flag = finite(flag, pivot);
+        p[k] = pivot;
+        for (size_t i = k + 1; i < n; i++) {
+            double m = t[i][k] / pivot;
+            flag = finite(above(flag, m, DBL_MIN, t[i][k]), m);
+            add_multiple(1, m, &s[k], &s[i], &flag);
+            double kept = flags[i];
+            add_multiple(n - (k + 1), m, &t[k][k + 1], &t[i][k + 1], &flags[k + 1]);
+            flags[i] = kept;
+            if (k >= column)
+                add_multiple(1, m, &b[k], &b[i], &flag);
+        }
+    }
+    for (size_t k = n - 1; k > 0; k--)
+        for (size_t i = 0; i < k; i++) {
+            double m = t[i][k] / p[k];
+            flag = finite(above(flag, m, DBL_MIN, t[i][k]), m);
+            add_multiple(1, m, &b[k], &b[i], &flags[i]);
+        }
+    for (size_t i = 0; i < n; i++) {
+        double x = b[i] / p[i];
+        flags[i] = finite(above(flags[i], x, DBL_MIN, b[i]), x);
+        b[i] = x;
+    }
+    for (size_t j = 0; j < n; j++)
+        flag += flags[j];
+    if (flag != 0.0)
+        return 0;
+    memcpy(answer, b, n * sizeof(double));
     return 1;
 }
 

@@ -1,11 +1,12 @@
 /* Runs every candidate on the sheets that run.py hands over on standard input, and prints what each
    answered and its best time.
 
-   Input, in 8-byte words, group after group: reading, n, how many sheets, how many batches, the sheets
-   row by row, then for each sheet its matrix A column by column. Output: a line with OpenBLAS's build and
-   kernels, or "none"; then for each group a line with the number of its candidates, and for each of them a
-   line with the name, a tab and the nanoseconds for one table (0 without batches), and a line for each sheet:
-   0 or the number of the refusal, and the n × n words of the answer in hexadecimal. */
+   Input, in 8-byte words, group after group: reading, n, how many sheets, how many batches, for each sheet the
+   stage whose column is asked for, or 0 for all of them if the group is about whole tables, the sheets row by
+   row, then for each sheet its matrix A column by column. Output: a line with OpenBLAS's build and kernels, or
+   "none"; then for each group a line with the number of its candidates, and for each of them a line with the
+   name, a tab and the nanoseconds for one call (0 without batches), and a line for each sheet: 0 or the number
+   of the refusal, and the words of the answer in hexadecimal, n × n of a table and n of a column. */
 #define _POSIX_C_SOURCE 200809L
 #include <stdint.h>
 #include <stdio.h>
@@ -15,21 +16,27 @@
 
 #include "yulanbowls.h"
 
-enum { LIMIT = 32, MOST = LIMIT * LIMIT, WORKSPACE = 64 * LIMIT, MOST_GROUPS = 256, MOST_CANDIDATES = 8 };
+enum { LIMIT = 32, MOST = LIMIT * LIMIT, WORKSPACE = 64 * LIMIT, MOST_GROUPS = 256, MOST_CANDIDATES = 12 };
 enum { TURN = 10 };                           /* batches of a group before the next group has its turn */
 static const double shortest_batch = 20000.0; /* nanoseconds: long beside what a look at the clock costs */
 
 struct group {
     uint64_t reading, n, sheets, batches;
+    uint64_t *stages; /* whose column is asked for, of each sheet; 0 where whole tables are */
     double *numbers, *matrices;
     uint64_t calls[MOST_CANDIDATES]; /* in a batch */
     double best[MOST_CANDIDATES];
 };
 
+/* The groups that a candidate takes part in: those about whole tables, of both readings or of reading 1, or
+   those about one column, where whole tables stand beside the columns. */
+enum part { TABLES, TABLES_OF_RATES, COLUMNS };
+
 struct candidate {
     const char *name;
-    size_t (*table)(const struct group *g, size_t at, double *answer);
-    int margins; /* whether it knows reading 2 */
+    size_t (*call)(const struct group *g, size_t at, double *answer);
+    enum part part;
+    int one_column; /* whether its answer is n numbers */
 };
 
 static const double *sheet_of(const struct group *g, size_t at)
@@ -41,6 +48,13 @@ static size_t proved(const struct group *g, size_t at, double *answer)
 {
     size_t allowance, row, column, places = g->n * g->n;
     return yulanbowls_table(g->reading, g->n, sheet_of(g, at), places, answer, places, &allowance, &row, &column);
+}
+
+static size_t proved_column(const struct group *g, size_t at, double *answer)
+{
+    size_t allowance, row, column;
+    return yulanbowls_column(g->reading, g->n, sheet_of(g, at), g->n * g->n, g->stages[at], answer, g->n, &allowance,
+                             &row, &column);
 }
 
 #ifdef OTHER
@@ -67,6 +81,15 @@ STEPS(checked_O2)
 STEPS(checked_O3)
 STEPS(plain_native)
 
+#define COLUMN_STEPS(suffix)                                                                 \
+    int column_##suffix(size_t n, const double *sheet, size_t column, double *answer);       \
+    static size_t one_##suffix(const struct group *g, size_t at, double *answer)             \
+    {                                                                                        \
+        return column_##suffix(g->n, sheet_of(g, at), g->stages[at] - 1, answer) ? 0 : 10;   \
+    }
+COLUMN_STEPS(plain_O3)
+COLUMN_STEPS(checked_O3)
+
 #ifdef LAPACK
 void dgetrf_(const int *m, const int *n, double *a, const int *lda, int *pivots, int *info);
 void dgetri_(const int *n, double *a, const int *lda, const int *pivots, double *work, const int *lwork, int *info);
@@ -90,28 +113,34 @@ static size_t lapack(const struct group *g, size_t at, double *answer)
 #endif
 
 static const struct candidate candidates[] = {
-    {"yulanbowls", proved, 1},
+    {"yulanbowls", proved, TABLES, 0},
 #ifdef OTHER
-    {"other library", other, 1},
+    {"other library", other, TABLES, 0},
 #endif
-    {"C -O3", table_plain_O3, 0},
-    {"C -O2", table_plain_O2, 0},
-    {"checked C -O3", table_checked_O3, 0},
-    {"checked C -O2", table_checked_O2, 0},
-    {"C -O3 -march=native", table_plain_native, 0},
+    {"C -O3", table_plain_O3, TABLES_OF_RATES, 0},
+    {"C -O2", table_plain_O2, TABLES_OF_RATES, 0},
+    {"checked C -O3", table_checked_O3, TABLES_OF_RATES, 0},
+    {"checked C -O2", table_checked_O2, TABLES_OF_RATES, 0},
+    {"C -O3 -march=native", table_plain_native, TABLES_OF_RATES, 0},
 #ifdef LAPACK
-    {"LAPACK", lapack, 1},
+    {"LAPACK", lapack, TABLES, 0},
 #endif
+    {"yulanbowls, whole table", proved, COLUMNS, 0},
+    {"yulanbowls, one column", proved_column, COLUMNS, 1},
+    {"C -O3, one column", one_plain_O3, COLUMNS, 1},
+    {"checked C -O3, one column", one_checked_O3, COLUMNS, 1},
 };
 #define CANDIDATES (sizeof candidates / sizeof candidates[0])
 _Static_assert(CANDIDATES <= MOST_CANDIDATES, "room for every candidate");
 
 static int takes_part(const struct group *g, size_t c)
 {
-    return g->reading == 1 || candidates[c].margins;
+    if (g->stages[0] != 0)
+        return candidates[c].part == COLUMNS;
+    return candidates[c].part == TABLES || (candidates[c].part == TABLES_OF_RATES && g->reading == 1);
 }
 
-/* Nanoseconds of so many tables, the sheets in turn. The round moves the stack, so that a row's best time
+/* Nanoseconds of so many calls, the sheets in turn. The round moves the stack, so that a row's best time
    does not hang on where the tables of this one program happen to lie. */
 static double batch(const struct group *g, size_t c, uint64_t calls, uint64_t round)
 {
@@ -122,7 +151,7 @@ static double batch(const struct group *g, size_t c, uint64_t calls, uint64_t ro
     (void)moved;
     clock_gettime(CLOCK_MONOTONIC, &start);
     for (uint64_t call = 0, at = 0; call < calls; call++) {
-        candidates[c].table(g, at, answer);
+        candidates[c].call(g, at, answer);
         at = at + 1 < g->sheets ? at + 1 : 0;
     }
     clock_gettime(CLOCK_MONOTONIC, &end);
@@ -179,10 +208,11 @@ static void measure_all(struct group *groups, size_t count)
 
 static void print_answers(const struct group *g, size_t c)
 {
+    size_t places = candidates[c].one_column ? g->n : g->n * g->n;
     for (size_t at = 0; at < g->sheets; at++) {
         double answer[MOST] = {0.0};
-        printf("%zu", candidates[c].table(g, at, answer));
-        for (size_t place = 0; place < g->n * g->n; place++) {
+        printf("%zu", candidates[c].call(g, at, answer));
+        for (size_t place = 0; place < places; place++) {
             uint64_t word;
             memcpy(&word, &answer[place], sizeof word);
             printf(" %016llx", (unsigned long long)word);
@@ -213,13 +243,14 @@ static void read_words(void *to, size_t count)
     }
 }
 
-static double *read_numbers(size_t count)
+/* So many words, in memory of their own. */
+static void *read_many(size_t count)
 {
-    double *numbers = malloc(count * sizeof(double));
-    if (numbers == NULL)
+    void *words = malloc(count * 8);
+    if (words == NULL)
         exit(2);
-    read_words(numbers, count);
-    return numbers;
+    read_words(words, count);
+    return words;
 }
 
 /* The next group of the input; 0 at its end. */
@@ -234,8 +265,9 @@ static int read_group(struct group *g)
         fprintf(stderr, "time: a group of %zu stages and %zu sheets\n", (size_t)g->n, (size_t)g->sheets);
         exit(2);
     }
-    g->numbers = read_numbers(g->sheets * g->n * g->n);
-    g->matrices = read_numbers(g->sheets * g->n * g->n);
+    g->stages = read_many(g->sheets);
+    g->numbers = read_many(g->sheets * g->n * g->n);
+    g->matrices = read_many(g->sheets * g->n * g->n);
     return 1;
 }
 

@@ -49,6 +49,26 @@ static int print_last(size_t reading, size_t n, const double *sheet)
     return 0;
 }
 
+/* The seconds at the last stage from every stage, for a sheet of reading 1: a column of the table by itself. */
+static int print_column(size_t n, const double *sheet)
+{
+    double seconds[YULANBOWLS_STAGES];
+    size_t allowance;
+    struct refusal no;
+
+    no.number = yulanbowls_column(1, n, sheet, n * n, n, seconds, YULANBOWLS_STAGES, &allowance, &no.row,
+                                  &no.column);
+    if (no.number != 0) {
+        return print_refusal(&no);
+    }
+    printf("seconds at stage %zu from each stage:", n);
+    for (size_t i = 0; i < n; i++) {
+        printf(" %.17g", seconds[i]);
+    }
+    printf("\n");
+    return 0;
+}
+
 static int print_sheet(size_t reading, size_t n, const double *sheet)
 {
     double table[YULANBOWLS_NUMBERS];
@@ -61,7 +81,10 @@ static int print_sheet(size_t reading, size_t n, const double *sheet)
         return print_refusal(&no);
     }
     print_table(n, table, allowance);
-    return print_last(reading, n, sheet);
+    if (print_last(reading, n, sheet) != 0) {
+        return 1;
+    }
+    return reading == 1 ? print_column(n, sheet) : 0;
 }
 
 static int save_sheet(size_t reading, size_t n, const double *sheet, const char *name)

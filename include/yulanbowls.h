@@ -1,7 +1,8 @@
 /*
  * Yulanbowls for C and C++ programs: dwell times from a flow sheet. The archive is libhosts.a, which
  * `rt staticlib hosts` builds for x86-64 Linux. What is promised below is proved of the library's code;
- * the exact statements are the `ensures` of crates/hosts/src/lib.rt, crates/hosts/specs/ and crates/file_calls/specs/.
+ * the exact statements are the `ensures` of crates/hosts/src/lib.rt, crates/hosts/specs/, crates/table_calls/specs/
+ * and crates/file_calls/specs/.
  *
  * The sheet
  *   n stages, 1 to 32, and n * n numbers, row by row, so at most 1,024. Off the diagonal, place (i, j)
@@ -18,11 +19,12 @@
  *   but in a file 11 to 13 record by record, then 14 and then 4. The first decides.
  *
  *   number  the call is refused because                                          row, column
- *        1  the reading is neither 1 nor 2                                        0, 0
+ *        1  the reading is neither 1 nor 2, or, for a column, is not 1            0, 0
  *        2  n is below 1 or above 32                                              0, 0
  *        3  the sheet has more or fewer than n * n numbers                        0, 0
- *        4  the area has room for fewer than n * n numbers, or, in saving,        0, 0
- *           for fewer than 10 + n * (8n + 8) bytes
+ *        4  the area has room for fewer than n * n numbers, or, for a column,     0, 0
+ *           for fewer than n, or, in saving, for fewer than 10 + n * (8n + 8)
+ *           bytes
  *        5  a stage that is asked for is below 1 or above n                       0, 0
  *        6  a number is an infinity or a NaN                                      of the first such number
  *        7  a number has the wrong sign: off the diagonal it is above zero,       of the first such number
@@ -38,8 +40,8 @@
  *       13  a record is not the row that is due, of n numbers                     of the row due, 0
  *       14  bytes follow the last row                                             0, 0
  *
- *   yulanbowls_table can return 1 to 4 and 6 to 10, yulanbowls_entry 1 to 3 and 5 to 10, the two readers of
- *   files 4 and 11 to 14, and the two writers 1 to 4.
+ *   yulanbowls_table can return 1 to 4 and 6 to 10, yulanbowls_entry 1 to 3 and 5 to 10, yulanbowls_column 1
+ *   to 10, the two readers of files 4 and 11 to 14, and the two writers 1 to 4.
  *
  * What the caller owes, in every call (nothing tests it)
  *   - Each pointer is not null, is aligned for its type, and points to as many numbers or bytes as the
@@ -90,6 +92,20 @@ size_t yulanbowls_entry(size_t reading, size_t n,
                         const double *sheet, size_t sheet_length,
                         size_t i, size_t j,
                         double *seconds, size_t *row, size_t *column);
+
+/*
+ * The column of one stage, for reading 1 alone: reading 2 is refused with 1. `answer` needs room for n numbers.
+ * Accepted: its first n places hold the column, place i the seconds that a request entering at stage i spends
+ * at `stage`, and later places are unchanged. `*allowance` is E = 4n^3, and each number is within a factor
+ * (1 + 2^-53)^E of that entry of the exact inverse, as in the table. Where the whole table is accepted so is
+ * each of its columns, with the same bits. The call takes fewer steps than the table, so it may be accepted
+ * where the whole table is refused with 10; its accuracy is the same there.
+ */
+size_t yulanbowls_column(size_t reading, size_t n,
+                         const double *sheet, size_t sheet_length,
+                         size_t stage,
+                         double *answer, size_t answer_length,
+                         size_t *allowance, size_t *row, size_t *column);
 
 /*
  * Reads a sheet file that is in memory. Accepted: `*reading` and `*n` are those of its head, the first n * n

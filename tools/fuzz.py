@@ -102,10 +102,43 @@ def damaged(rng: random.Random, words: Sequence[int]) -> list[int]:
     return spoilt
 
 
-def some_sheet(rng: random.Random) -> Sheet:
+def lost_pivot_sheet(rng: random.Random, n: int) -> list[float]:
+    """A sheet of two stages or more in which one pivot overflows, and no other number of the columns before it
+    shows that: moves go to later stages alone, and none to that pivot's stage."""
+    k = rng.randrange(n - 1)
+    summed = rng.sample(range(k, n), 2)     # two terms of the pivot
+
+    def number(i: int, j: int) -> float:
+        if i == k and j in summed:
+            return LARGEST if i == j else -LARGEST
+        if i == j:
+            return reference.random_size(rng, 0)
+        if i > j or j == k or rng.random() < 0.5:
+            return reference.random_zero(rng)
+        return -reference.random_size(rng, 3)
+
+    return [number(i, j) for i in range(n) for j in range(n)]
+
+
+def column_numbers(rng: random.Random, n: int) -> list[float]:
+    """The numbers of a sheet of reading 1: mostly rates so far apart that often only some columns are in range."""
+    kind = rng.random()
+    if kind < 0.4:
+        return some_numbers(rng, reference.LEAVING_RATES, n)
+    if kind < 0.43 and n > 1:
+        return lost_pivot_sheet(rng, n)
+    numbers = reference.uneven_sheet(rng, n)
+    if kind > 0.98 and n <= 4:
+        pair = reference.edge_pair(rng, reference.LEAVING_RATES, n, numbers, rng.randint(1, n))
+        return rng.choice(pair) if pair else numbers
+    return numbers
+
+
+def some_sheet(rng: random.Random, for_column: bool = False) -> Sheet:
     """A sheet as a caller may lend it: most are whole, some are damaged or not what the other arguments say."""
-    reading, n = rng.choice([1, 2]), some_n(rng)
-    words = [bits_of(x) for x in some_numbers(rng, reading, n)]
+    reading, n = 1 if for_column else rng.choice([1, 2]), some_n(rng)
+    numbers = column_numbers(rng, n) if for_column else some_numbers(rng, reading, n)
+    words = [bits_of(x) for x in numbers]
     if rng.random() < 0.2:
         words = damaged(rng, words)
     if rng.random() < 0.03:
@@ -117,9 +150,15 @@ def some_sheet(rng: random.Random) -> Sheet:
     return Sheet(reading, n, words)
 
 
-def some_room(rng: random.Random, n: int) -> int:
-    """The length of an area for n × n numbers: mostly enough."""
-    needed = min(n, 33) ** 2
+def some_stage(rng: random.Random, n: int) -> int:
+    """A stage that is asked for: mostly one of the sheet's."""
+    if rng.random() < 0.03:
+        return rng.choice([0, n + 1, *HUGE]) % 2 ** 64
+    return rng.randint(1, min(max(n, 1), 32))
+
+
+def some_room(rng: random.Random, needed: int) -> int:
+    """The length of an area for so many numbers: mostly enough."""
     kind = rng.random()
     if kind < 0.06:
         return rng.choice([0, max(0, needed - 1), rng.randrange(needed + 1)])
@@ -169,15 +208,21 @@ def damaged_file(rng: random.Random, data: bytes, n: int) -> bytes:
 def call_table(calls: Calls, rng: random.Random) -> int:
     """The whole table."""
     sheet = some_sheet(rng)
-    return calls.table(sheet.reading, sheet.n, sheet.words, some_room(rng, sheet.n))[0]
+    return calls.table(sheet.reading, sheet.n, sheet.words, some_room(rng, min(sheet.n, 33) ** 2))[0]
 
 
 def call_entry(calls: Calls, rng: random.Random) -> int:
     """One entry."""
     sheet = some_sheet(rng)
-    i, j = (rng.choice([0, sheet.n + 1, *HUGE]) % 2 ** 64 if rng.random() < 0.03
-            else rng.randint(1, min(max(sheet.n, 1), 32)) for _ in range(2))
+    i, j = some_stage(rng, sheet.n), some_stage(rng, sheet.n)
     return calls.entry(sheet.reading, sheet.n, sheet.words, i, j)[0]
+
+
+def call_column(calls: Calls, rng: random.Random) -> int:
+    """One column."""
+    sheet = some_sheet(rng, for_column=True)
+    stage = some_stage(rng, sheet.n)
+    return calls.column(sheet.reading, sheet.n, sheet.words, stage, some_room(rng, min(sheet.n, 33)))[0]
 
 
 def reader(name: str) -> Callable[[Calls, random.Random], int]:
@@ -185,7 +230,7 @@ def reader(name: str) -> Callable[[Calls, random.Random], int]:
     def call(calls: Calls, rng: random.Random) -> int:
         data = some_file(rng)
         n = data[8] if len(data) > 8 else 1
-        return calls.read(name, data, some_room(rng, n))[0]
+        return calls.read(name, data, some_room(rng, min(n, 33) ** 2))[0]
     return call
 
 
@@ -222,6 +267,7 @@ def call_report(calls: Calls, rng: random.Random) -> int:
 EXPORTS: dict[str, tuple[Callable[[Calls, random.Random], int], set[int]]] = {
     "yulanbowls_table": (call_table, {1, 2, 3, 4, 6, 7, 8, 9, 10}),
     "yulanbowls_entry": (call_entry, {1, 2, 3, 5, 6, 7, 8, 9, 10}),
+    "yulanbowls_column": (call_column, {1, 2, 3, 4, 5, 6, 7, 8, 9, 10}),
     "yulanbowls_read_numbers": (reader("yulanbowls_read_numbers"), {4, 11, 12, 13, 14}),
     "yulanbowls_read_words": (reader("yulanbowls_read_words"), {4, 11, 12, 13, 14}),
     "yulanbowls_save_numbers": (writer("yulanbowls_save_numbers"), {1, 2, 3, 4}),

@@ -21,7 +21,7 @@ from typing import Optional, Sequence, Union
 sys.dont_write_bytecode = True
 sys.path.insert(0, str(Path(__file__).resolve().parent))
 import reference  # noqa: E402
-from reference import Loaded, Refused, Saved, Seconds, Table, bits_of, number_of  # noqa: E402
+from reference import Column, Loaded, Refused, Saved, Seconds, Table, bits_of, number_of  # noqa: E402
 
 ROOT = Path(__file__).resolve().parent.parent
 HEADER = ROOT / "include" / "yulanbowls.h"
@@ -163,6 +163,15 @@ class Calls:
         """An out place: what the call hands over, and what it held before where the call is refused."""
         self.same(place.after(), place.content if word is None else packed([word]), what)
 
+    def filled(self, area: Lent, allowance: Lent, answer: Union[Table, Column, Refused]) -> None:
+        """The answer area and the allowance after a table or a column was asked for."""
+        if isinstance(answer, Refused):
+            entries, word = b"", None
+        else:
+            entries, word = packed([bits_of(x) for x in answer.entries]), answer.allowance
+        self.handed(allowance, word, "allowance")
+        self.same(area.after(), entries + area.content[len(entries):], "answer area")
+
     def table(self, reading: int, n: int, words: Sequence[int], room: int) -> Told:
         """The whole table of a sheet, given by its 64-bit words, with an area of so many places."""
         sheet, area = Lent(packed(words)), self.area(room)
@@ -170,9 +179,18 @@ class Calls:
         number = self.library.call("yulanbowls_table", reading=reading, n=n, sheet=sheet, answer=area,
                                    allowance=allowance, row=row, column=column)
         answer = reference.table(reading, n, [number_of(word) for word in words], room)
-        entries = packed([bits_of(x) for x in answer.entries]) if isinstance(answer, Table) else b""
-        self.handed(allowance, answer.allowance if isinstance(answer, Table) else None, "allowance")
-        self.same(area.after(), entries + area.content[len(entries):], "answer area")
+        self.filled(area, allowance, answer)
+        self.same(sheet.after(), sheet.content, "sheet")
+        return self.refusal(number, row, column, answer)
+
+    def column(self, reading: int, n: int, words: Sequence[int], stage: int, room: int) -> Told:
+        """The column of a stage of a sheet, with an area of so many places."""
+        sheet, area = Lent(packed(words)), self.area(room)
+        allowance, row, column = self.place(), self.place(), self.place()
+        number = self.library.call("yulanbowls_column", reading=reading, n=n, sheet=sheet, stage=stage, answer=area,
+                                   allowance=allowance, row=row, column=column)
+        answer = reference.column(reading, n, [number_of(word) for word in words], stage, room)
+        self.filled(area, allowance, answer)
         self.same(sheet.after(), sheet.content, "sheet")
         return self.refusal(number, row, column, answer)
 

@@ -49,6 +49,13 @@ class Table:
 
 
 @dataclass(frozen=True)
+class Column:
+    """One column of the table, from every entry stage, with its allowance."""
+    entries: list[float]
+    allowance: int
+
+
+@dataclass(frozen=True)
 class Seconds:
     """One entry of the table."""
     value: float
@@ -279,6 +286,11 @@ def ask_reading(reading: int) -> Optional[Refused]:
     return None if reading in (LEAVING_RATES, MARGINS) else Refused(1)
 
 
+def ask_leaving_rates(reading: int) -> Optional[Refused]:
+    """Question 1 for one column: is the reading 1?  (02, U2: "Reading 2 gets 1.")"""
+    return None if reading == LEAVING_RATES else Refused(1)
+
+
 def ask_size(n: int) -> Optional[Refused]:
     """Question 2: is n from 1 to 32?  Nothing is formed from n before it is asked."""
     return None if 1 <= n <= LIMIT else Refused(2)
@@ -294,9 +306,9 @@ def ask_area(needed: int, area_length: int) -> Optional[Refused]:
     return None if area_length >= needed else Refused(4)
 
 
-def ask_stages(n: int, i: int, j: int) -> Optional[Refused]:
-    """Question 5: are both stages from 1 to n?"""
-    return None if 1 <= i <= n and 1 <= j <= n else Refused(5)
+def ask_stages(n: int, *stages: int) -> Optional[Refused]:
+    """Question 5: are the stages asked for, two for one entry and one for one column, from 1 to n?"""
+    return None if all(1 <= stage <= n for stage in stages) else Refused(5)
 
 
 def first_bad_place(number: int, n: int, sheet: Sequence[float],
@@ -380,6 +392,20 @@ def entry(reading: int, n: int, sheet: Sequence[float], i: int, j: int) -> Union
         return refusal
     x = invert(reading, n, sheet)
     return x if isinstance(x, Refused) else Seconds(x[i - 1][j - 1])
+
+
+def column(reading: int, n: int, sheet: Sequence[float], stage: int, area_length: int) -> Union[Column, Refused]:
+    """One column (02, U2): questions 1 to 10, of which 4 asks for n numbers and 5 about the one stage; 10
+    looks at the steps that serve every column and at those of this column of b, and at no other."""
+    refusal = (ask_leaving_rates(reading) or ask_size(n) or ask_sheet_length(n, sheet)
+               or ask_area(n, area_length) or ask_stages(n, stage) or ask_numbers(reading, n, sheet))
+    if refusal:
+        return refusal
+    try:
+        entries = solve_column(eliminate(*sheet_parts(n, sheet)), stage - 1)
+    except OutOfRange:
+        return Refused(10)
+    return Column(entries, allowance(reading, n))
 
 
 # ==== The sheet file and the dwell program (01, "The sheet file") ====
@@ -646,21 +672,29 @@ class EntryError:
     within: bool
 
 
+def entry_error(i: int, j: int, entry_ij: float, low: Quotient, high: Quotient, most: int) -> EntryError:
+    """Compares entry (i, j) with the bounds of the exact one by the accuracy rule."""
+    if not math.isfinite(entry_ij):
+        return EntryError(i + 1, j + 1, math.inf, math.inf, False)
+    x = entry_ij.as_integer_ratio()
+    error = max(roundings(x, low), roundings(x, high))
+    return EntryError(i + 1, j + 1, error, error / most, near(x, low, most) and near(x, high, most))
+
+
 def accuracy(reading: int, n: int, sheet: Sequence[float], entries: Sequence[float]) -> list[EntryError]:
     """Compares a table with the exact inverse by the accuracy rule (demand 3)."""
     low, high = exact_bounds(reading, n, sheet)
     most = allowance(reading, n)
-    errors = []
-    for i in range(n):
-        for j in range(n):
-            if not math.isfinite(entries[i * n + j]):
-                errors.append(EntryError(i + 1, j + 1, math.inf, math.inf, False))
-                continue
-            x = entries[i * n + j].as_integer_ratio()
-            error = max(roundings(x, low[i][j]), roundings(x, high[i][j]))
-            within = near(x, low[i][j], most) and near(x, high[i][j], most)
-            errors.append(EntryError(i + 1, j + 1, error, error / most, within))
-    return errors
+    return [entry_error(i, j, entries[i * n + j], low[i][j], high[i][j], most) for i in range(n) for j in range(n)]
+
+
+def column_accuracy(n: int, sheet: Sequence[float], columns: dict[int, Sequence[float]]) -> list[EntryError]:
+    """Compares columns, each under its stage, with those of the exact inverse (02, U2: "The accuracy rule
+    covers this column whenever it is accepted")."""
+    low, high = exact_bounds(LEAVING_RATES, n, sheet)
+    most = allowance(LEAVING_RATES, n)
+    return [entry_error(i, stage - 1, entries[i], low[i][stage - 1], high[i][stage - 1], most)
+            for stage, entries in columns.items() for i in range(n)]
 
 
 # ==== Random sheets ====
@@ -713,6 +747,26 @@ def random_sheet(rng: random.Random, reading: int, n: int, style: Style) -> list
     return sheet
 
 
+def uneven_sheet(rng: random.Random, n: int) -> list[float]:
+    """A sheet of reading 1 that questions 6 to 9 pass and of which often only some columns are in range.
+
+    Moves one way, to later or to earlier stages, are hundreds of binary orders below the others.  The steps
+    that serve every column take one such number as a factor, those of b one for each move of a chain.
+    """
+    later, density, back = rng.random() < 0.5, rng.choice([0.3, 0.6, 1.0]), rng.choice([0.0, 0.3, 1.0])
+    below, spread = rng.choice([150, 300, 450, 600, 700]), rng.choice([3, 3, 300])
+
+    def number(i: int, j: int) -> float:
+        if i == j:
+            return random_size(rng, spread)
+        small = (i < j) == later
+        if rng.random() >= (density if small else back):
+            return random_zero(rng)
+        return -random_size(rng, 100, below) if small else -random_size(rng, 3)
+
+    return [number(i, j) for i in range(n) for j in range(n)]
+
+
 def let_out(rng: random.Random, moves: list[list[bool]], positive: list[bool]) -> None:
     """Gives every stage a chain to one stage that leaves."""
     order = list(range(len(positive)))
@@ -730,9 +784,10 @@ def drop_stages(moves: list[list[bool]], dropped: list[bool]) -> None:
                 row[j] = row[j] and j < i and dropped[j]
 
 
-def edge_pair(rng: random.Random, reading: int, n: int,
-              sheet: list[float]) -> Optional[tuple[list[float], list[float]]]:
-    """An accepted sheet and one refused with 10, equal but for one number, there one last place apart.
+def edge_pair(rng: random.Random, reading: int, n: int, sheet: list[float],
+              stage: Optional[int] = None) -> Optional[tuple[list[float], list[float]]]:
+    """An accepted sheet and one refused with 10, equal but for one number, there one last place apart; for
+    the whole table, or for the column of a stage.
 
     One nonzero number of an accepted sheet is carried towards an end of the range until acceptance
     flips, and then bisected; None where it never flips.
@@ -743,7 +798,9 @@ def edge_pair(rng: random.Random, reading: int, n: int,
         return sheet[:place] + [math.copysign(number_of(word), sheet[place])] + sheet[place + 1:]
 
     def out_of_range(word: int) -> bool:
-        return table(reading, n, with_size(word), n * n) == Refused(10)
+        changed_sheet = with_size(word)
+        return Refused(10) == (table(reading, n, changed_sheet, n * n) if stage is None
+                               else column(reading, n, changed_sheet, stage, n))
 
     accepted = bits_of(abs(sheet[place]))
     ends = [bits_of(SMALLEST_NORMAL), bits_of(LARGEST)]
@@ -777,6 +834,11 @@ class Failed(Exception):
     """A check that did not hold."""
 
 
+def words_of(answer: Union[Refused, Sequence[float]]) -> Union[Refused, list[str]]:
+    """A refusal, or the bits of each number in hexadecimal."""
+    return answer if isinstance(answer, Refused) else [f"{bits_of(x):016x}" for x in answer]
+
+
 class Checks:
     """Counts the checks and stops at the first that fails."""
 
@@ -793,19 +855,34 @@ class Checks:
 
     def gives(self, what: str, reading: int, n: int, sheet: Sequence[float],
               expected: Union[Refused, list[float]]) -> None:
-        """The whole table and each single entry give these bits, or both services this refusal."""
+        """The whole table and each single entry give these bits, or both services this refusal.  So do the
+        columns for reading 1, unless a step is out of range; for reading 2 they are refused with 1."""
         got = table(reading, n, sheet, n * n)
+        if reading == MARGINS:
+            self.equal(f"{what}, one column", column(reading, n, sheet, 1, n), Refused(1))
         if isinstance(expected, Refused):
             self.equal(what, got, expected)
             self.equal(f"{what}, one entry", entry(reading, n, sheet, 1, 1), expected)
+            if reading == LEAVING_RATES and expected.number != 10:
+                self.equal(f"{what}, one column", column(reading, n, sheet, 1, n), expected)
             return
         self.true(f"{what}: {got}", isinstance(got, Table))
         factor = 4 if reading == 1 else 12
         self.equal(f"{what}, n and allowance", (got.n, got.allowance), (n, factor * n * n * n))
-        self.equal(what, [f"{bits_of(x):016x}" for x in got.entries], [f"{bits_of(x):016x}" for x in expected])
+        self.equal(what, words_of(got.entries), words_of(expected))
         for place, x in enumerate(expected):
             one = entry(reading, n, sheet, place // n + 1, place % n + 1)
             self.true(f"{what}, one entry: {one}", isinstance(one, Seconds) and bits_of(one.value) == bits_of(x))
+        for stage in range(1, n + 1) if reading == LEAVING_RATES else ():
+            self.column(f"{what}, column {stage}", n, sheet, stage, expected[stage - 1::n])
+
+    def column(self, what: str, n: int, sheet: Sequence[float], stage: int,
+               expected: Union[Refused, Sequence[float]]) -> None:
+        """One column of reading 1 gives these bits with their allowance, or this refusal."""
+        got = column(LEAVING_RATES, n, sheet, stage, n)
+        self.equal(what, words_of(got.entries if isinstance(got, Column) else got), words_of(expected))
+        if isinstance(got, Column):
+            self.equal(f"{what}, allowance", got.allowance, 4 * n * n * n)
 
 
 def test_document_sheets(check: Checks) -> None:
@@ -980,12 +1057,34 @@ def test_rounding(check: Checks, rng: random.Random) -> None:
                 check.equal("a step", step(x, y), expected)
 
 
-def literal_steps(n: int, sheet: Sequence[float]) -> list[float]:
-    """Document 01's steps for leaving rates word by word: stages from 1, b as a whole table, no range test."""
+class Ranged(float):
+    """A number whose sums, products and quotients raise OutOfRange where they leave the range."""
+
+    def __add__(self, other: float) -> Ranged:
+        return Ranged.step(float.__add__(self, other), True)
+
+    def __mul__(self, other: float) -> Ranged:
+        return Ranged.step(float.__mul__(self, other), self == 0 or other == 0)
+
+    def __truediv__(self, other: float) -> Ranged:
+        return Ranged.step(float.__truediv__(self, other), self == 0)
+
+    @staticmethod
+    def step(result: float, may_be_small: bool) -> Ranged:
+        """A result, by the ends of its range; no result of the steps is negative."""
+        least = 0.0 if may_be_small else number_of(0x0010000000000001)
+        if not least <= result <= number_of(0x7fefffffffffffff):
+            raise OutOfRange
+        return Ranged(result)
+
+
+def literal_steps(n: int, sheet: Sequence[float], columns: Sequence[int], number: type[float]) -> list[float]:
+    """Document 01's steps for leaving rates word by word: stages from 1, b as a table with these columns
+    alone.  With `Ranged` for number each step has its range test, with `float` none has."""
     places = range(1, n + 1)
-    t = {(i, j): 0.0 - sheet[(i - 1) * n + j - 1] for i in places for j in places if i != j}
-    s = {i: sheet[(i - 1) * n + i - 1] + 0.0 for i in places}
-    b = {(i, j): float(i == j) for i in places for j in places}
+    t = {(i, j): number(0.0 - sheet[(i - 1) * n + j - 1]) for i in places for j in places if i != j}
+    s = {i: number(sheet[(i - 1) * n + i - 1] + 0.0) for i in places}
+    b = {(i, j): number(i == j) for i in places for j in columns}
     p: dict[int, float] = {}
     for k in places:
         p[k] = s[k]
@@ -998,13 +1097,14 @@ def literal_steps(n: int, sheet: Sequence[float]) -> list[float]:
                 if j != i:
                     t[i, j] = t[i, j] + m * t[k, j]
             for j in range(1, k + 1):
-                b[i, j] = b[i, j] + m * b[k, j]
+                if j in columns:
+                    b[i, j] = b[i, j] + m * b[k, j]
     for k in range(n, 1, -1):
         for i in range(1, k):
             m = t[i, k] / p[k]
-            for j in places:
+            for j in columns:
                 b[i, j] = b[i, j] + m * b[k, j]
-    return [b[i, j] / p[i] for i in places for j in places]
+    return [b[i, j] / p[i] for i in places for j in columns]
 
 
 def test_literal_steps(check: Checks, rng: random.Random) -> None:
@@ -1014,8 +1114,128 @@ def test_literal_steps(check: Checks, rng: random.Random) -> None:
         sheet = random_sheet(rng, LEAVING_RATES, n, random_style(rng, 60))
         got = table(LEAVING_RATES, n, sheet, n * n)
         if isinstance(got, Table):
-            check.equal("column by column", [bits_of(x) for x in got.entries],
-                        [bits_of(x) for x in literal_steps(n, sheet)])
+            check.equal("column by column", words_of(got.entries),
+                        words_of(literal_steps(n, sheet, range(1, n + 1), float)))
+
+
+def literal_answer(n: int, sheet: Sequence[float], columns: Sequence[int]) -> Union[Refused, list[float]]:
+    """These columns by the text's steps with their range tests, row by row."""
+    try:
+        return literal_steps(n, sheet, columns, Ranged)
+    except OutOfRange:
+        return Refused(10)
+
+
+def test_column_questions(check: Checks) -> None:
+    """One column: the questions in order, what is handed over, and a table of which one column is in range."""
+    half = [1.0, 0.0, 0.0, 2.0 ** 1022]
+    check.equal("column 1 of a refused table", column(1, 2, half, 1, 2), Column([1.0, 0.0], 32))
+    check.equal("column 2 of it", column(1, 2, half, 2, 2), Refused(10))
+    check.equal("that table", table(1, 2, half, 4), Refused(10))
+    lost_pivot = [1.0, 0.0, 0.0, 0.0, LARGEST, -LARGEST, 0.0, 0.0, 1.0]
+    for stage in (1, 2, 3):
+        check.column("a pivot that overflows", 3, lost_pivot, stage, Refused(10))
+    for stage, expected in ((1, [1.0, 1.0]), (2, [1.0, 2.0])):
+        check.column("column of P", 2, P_SHEET, stage, expected)
+        check.equal("a larger area", column(1, 2, P_SHEET, stage, 2000), Column(expected, 32))
+    for reading in (0, 2, 3, 2 ** 64 - 1):
+        check.equal("1 before 2, column", column(reading, 0, [], 0, 0), Refused(1))
+        check.equal("1 of a good sheet", column(reading, 2, P_SHEET, 1, 2), Refused(1))
+    for n in (0, 33, 2 ** 32, 2 ** 63, 2 ** 64 - 1):
+        check.equal("2 before 3, column", column(1, n, [NAN], 0, 0), Refused(2))
+    for length in (0, 1, 3, 5):
+        check.equal("3 before 4, column", column(1, 2, [NAN] * length, 0, 0), Refused(3))
+    for room in (0, 1):
+        check.equal("4 before 5", column(1, 2, [NAN] * 4, 0, room), Refused(4))
+    for stage in (0, 3, 2 ** 63, 2 ** 64 - 1):
+        check.equal("5 before 6, column", column(1, 2, [NAN] * 4, stage, 2), Refused(5))
+    for what, sheet, expected in [
+            ("6 before 7", [5.0, 1.0, NAN, 1.0], Refused(6, 2, 1)),
+            ("7 before 8", [1.0, -2.0 ** -1074, 1.0, 1.0], Refused(7, 2, 1)),
+            ("8 before 9", [0.0, -2.0 ** -1074, 0.0, 0.0], Refused(8, 1, 2)),
+            ("9 before 10", [2.0 ** 1022, 0.0, 0.0, 0.0], Refused(9, 2, 0))]:
+        for stage in (1, 2):
+            check.column(f"{what}, column {stage}", 2, sheet, stage, expected)
+
+
+def test_column_range(check: Checks) -> None:
+    """The steps that each column takes, by sheets in which one step leaves the range, made by hand."""
+    tiny, huge, out = 2.0 ** -600, 2.0 ** 600, Refused(10)
+    for what, n, sheet, expected in [
+            ("a downward m", 2, [huge, 0.0, -tiny, 1.0], [out, out]),
+            ("an upward m", 2, [1.0, -tiny, 0.0, huge], [out, out]),
+            ("m·t_kj", 3, [1.0, 0.0, -tiny, -tiny, 1.0, 0.0, 0.0, 0.0, 1.0], [out] * 3),
+            ("a downward m·b_kj", 3, [1.0, 0.0, 0.0, -tiny, 1.0, 0.0, 0.0, -tiny, 1.0],
+             [out, [0.0, 1.0, tiny], [0.0, 0.0, 1.0]]),
+            ("an upward m·b_kj", 3, [1.0, -tiny, 0.0, 0.0, 1.0, -tiny, 0.0, 0.0, 1.0],
+             [[1.0, 0.0, 0.0], [tiny, 1.0, 0.0], out]),
+            ("b_12 / p_1", 2, [2.0 ** 500, -tiny, 0.0, 1.0], [[2.0 ** -500, 0.0], out])]:
+        check.gives(f"{what} out of range", LEAVING_RATES, n, sheet, out)
+        for stage in range(1, n + 1):
+            check.column(f"{what}, column {stage}", n, sheet, stage, expected[stage - 1])
+
+
+@dataclass
+class PartlyInRange:
+    """What came up of sheets whose whole table is refused with 10."""
+    sheets: int = 0
+    accepted: int = 0
+    refused: int = 0
+    of_allowance: float = 0.0
+
+    def note(self, n: int, accepted: int, errors: list[EntryError]) -> None:
+        self.sheets += 1
+        self.accepted += accepted
+        self.refused += n - accepted
+        self.of_allowance = max([self.of_allowance, *(error.allowances for error in errors)])
+
+    def line(self) -> str:
+        return (f"columns: {self.sheets} random sheets with the table out of range, {self.accepted} columns of them "
+                f"accepted, {self.refused} refused; largest error {self.of_allowance:.4f} of the allowance")
+
+
+def check_columns(check: Checks, n: int, sheet: list[float], seen: PartlyInRange) -> None:
+    """Every column of a sheet that 6 to 9 pass has the bits and the decision of the text's steps for it, and
+    is accepted with the table; where the table is not, the accepted ones keep the accuracy rule."""
+    got, whole = table(LEAVING_RATES, n, sheet, n * n), literal_answer(n, sheet, range(1, n + 1))
+    check.equal(f"table of {sheet}", words_of(got.entries if isinstance(got, Table) else got), words_of(whole))
+    kept: dict[int, list[float]] = {}
+    for stage in range(1, n + 1):
+        alone = literal_answer(n, sheet, [stage])
+        check.column(f"column {stage} of {sheet}", n, sheet, stage, alone)
+        if isinstance(alone, list):
+            kept[stage] = alone
+    if isinstance(whole, list):
+        check.equal("accepted with the table", len(kept), n)
+        for stage, entries in kept.items():
+            check.equal(f"column {stage} of the table", words_of(entries), words_of(whole[stage - 1::n]))
+        return
+    check.true("a column of a refused table is refused", len(kept) < n)
+    errors = column_accuracy(n, sheet, kept)
+    for error in errors:
+        check.true(f"accuracy of a column of {sheet}: {error}", error.within)
+    seen.note(n, len(kept), errors)
+
+
+def test_random_columns(check: Checks, rng: random.Random, long: bool) -> None:
+    """Random sheets, with rates so far apart that the table is often out of range and some columns are not,
+    and sheets at the edge of the range of one column."""
+    seen = PartlyInRange()
+    for at in range(1500 if long else 300):
+        n = rng.randint(1, 7)
+        sheet = uneven_sheet(rng, n) if at % 3 else random_sheet(rng, LEAVING_RATES, n, random_style(rng))
+        check_columns(check, n, sheet, seen)
+    for n in range(8, LIMIT + 1, 1 if long else 6):
+        check_columns(check, n, uneven_sheet(rng, n), seen)
+    edges = 0
+    for _ in range(300 if long else 60):
+        n = rng.randint(1, 5)
+        pair = edge_pair(rng, LEAVING_RATES, n, uneven_sheet(rng, n), rng.randint(1, n))
+        for sheet in pair or ():
+            check_columns(check, n, sheet, seen)
+            edges += 1
+    check.true("columns of each kind", min(seen.accepted, seen.refused, edges) > 50)
+    print(seen.line(), flush=True)
 
 
 def leads_out(moves: list[list[bool]], leaves: list[bool], i: int, chain: tuple[int, ...] = ()) -> bool:
@@ -1245,12 +1465,15 @@ def self_test(long: bool) -> int:
         test_margins(check)
         test_rounding(check, rng)
         test_literal_steps(check, rng)
+        test_column_questions(check)
+        test_column_range(check)
         test_trapped(check, rng)
         test_file(check, rng)
         test_saving(check, rng)
         test_dwell(check)
         test_exact_side(check, rng)
         test_random_sheets(check, rng, long)
+        test_random_columns(check, rng, long)
     except Failed as failure:
         print(f"FAILED after {check.count} checks: {failure}")
         return 1

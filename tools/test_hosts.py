@@ -60,6 +60,14 @@ class HostTest(unittest.TestCase):
         """Entry (i, j) of a sheet."""
         return self.calls.entry(reading, n, [bits_of(x) for x in sheet], i, j)
 
+    def column(self, reading: int, n: int, sheet: Sequence[float], stage: int, room: Optional[int] = None) -> Told:
+        """The column of a stage with an area of so many places (n if not said)."""
+        return self.calls.column(reading, n, [bits_of(x) for x in sheet], stage, n if room is None else room)
+
+    def columns(self, n: int, sheet: Sequence[float]) -> list[Told]:
+        """Every column of a sheet of reading 1."""
+        return [self.column(1, n, sheet, stage) for stage in range(1, n + 1)]
+
     def sheet(self, reading: int, n: int, sheet: Sequence[float]) -> Told:
         """The whole table of a sheet, and its first and last entry, which is refused alike."""
         answer = self.table(reading, n, sheet)
@@ -236,6 +244,113 @@ class EntryTest(HostTest):
             self.assertEqual(self.entry(2, n, [NAN], 0, 0), (2, 0, 0))
 
 
+class ColumnTest(HostTest):
+    """One column."""
+
+    def test_known_sheets(self) -> None:
+        """The sheets of the table: 6 to 9 as there; with the table every column, and with 10 not every one."""
+        numbers = set()
+        for sheet in SHEETS:
+            if sheet.reading == 2:
+                self.assertEqual(self.column(*sheet, 1), (1, 0, 0))
+                continue
+            whole, answers = self.table(*sheet), self.columns(sheet.n, sheet.numbers)
+            numbers |= {number for number, _, _ in answers}
+            if whole[0] == 10:
+                self.assertIn((10, 0, 0), answers)
+            else:
+                self.assertEqual(answers, [whole] * sheet.n)
+        self.assertEqual(numbers, {0, 6, 7, 8, 9, 10})
+
+    def test_one_of_two(self) -> None:
+        """The first column is in range, the second is not, and so is the table."""
+        sheet = [1.0, 0.0, 0.0, 2.0 ** 1022]
+        self.assertEqual(self.columns(2, sheet), [(0, 0, 0), (10, 0, 0)])
+        self.assertEqual(self.table(1, 2, sheet), (10, 0, 0))
+
+    def test_lost_pivot(self) -> None:
+        """A pivot that overflows is noticed, also by the column in which no later number shows it."""
+        sheet = [1.0, 0.0, 0.0, 0.0, reference.LARGEST, -reference.LARGEST, 0.0, 0.0, 1.0]
+        self.assertEqual(self.columns(3, sheet), [(10, 0, 0)] * 3)
+
+    def test_every_size(self) -> None:
+        """Columns of random sheets of every size, the first and the last among them; most are accepted."""
+        accepted = 0
+        for n in range(1, 33):
+            sheet = reference.random_sheet(self.rng, 1, n, reference.random_style(self.rng, 30))
+            whole = self.table(1, n, sheet)
+            for stage in {1, n, self.rng.randint(1, n)}:
+                answer = self.column(1, n, sheet, stage)
+                if whole == (0, 0, 0):
+                    self.assertEqual(answer, whole)
+                    accepted += 1
+        self.assertGreater(accepted, 40)
+
+    def test_some_columns(self) -> None:
+        """Sheets of which only some columns are in range, of few stages and of many."""
+        found = []
+        for n in [3, 4, 5, 6, 7] * 20 + [12, 19, 32] * 2:
+            sheet = reference.uneven_sheet(self.rng, n)
+            answers, whole = self.columns(n, sheet), self.table(1, n, sheet)
+            self.assertEqual(whole == (0, 0, 0), answers == [(0, 0, 0)] * n)
+            found += answers if whole == (10, 0, 0) else []
+        self.assertGreater(min(found.count((0, 0, 0)), found.count((10, 0, 0))), 50)
+
+    def test_edge_of_the_range(self) -> None:
+        """Pairs of sheets one last place apart, of which one has the column and the other is 10."""
+        found = 0
+        for n in [1, 2, 3, 4] * 12:
+            stage = self.rng.randint(1, n)
+            pair = reference.edge_pair(self.rng, 1, n, reference.uneven_sheet(self.rng, n), stage)
+            if pair is not None:
+                found += 1
+                self.assertEqual(self.column(1, n, pair[0], stage), (0, 0, 0))
+                self.assertEqual(self.column(1, n, pair[1], stage), (10, 0, 0))
+        self.assertGreater(found, 20)
+
+    def test_one_bad_number(self) -> None:
+        """A random sheet with one number spoilt, anywhere, is refused for every stage alike."""
+        for n in (2, 3, 7, 32) * 6:
+            numbers = reference.random_sheet(self.rng, 1, n, reference.random_style(self.rng, 30))
+            numbers[self.rng.randrange(n * n)] = self.rng.choice([NAN, INF, -INF, 2.0 ** -1074, -2.0 ** -1074])
+            self.assertEqual(self.column(1, n, numbers, 1), self.column(1, n, numbers, n))
+
+    def test_lengths(self) -> None:
+        """Sheets and areas that are too short, right, too long or empty; later places stay as they are."""
+        for n in (1, 2, 5, 32):
+            numbers = reference.random_sheet(self.rng, 1, n, reference.random_style(self.rng, 3))
+            for room in (n, n + 1, n + 50, PLACES + 7):
+                self.assertEqual(self.column(1, n, numbers, n, room), (0, 0, 0))
+            for room in (0, n - 1):
+                self.assertEqual(self.column(1, n, numbers, 1, room), (4, 0, 0))
+                self.assertEqual(self.column(1, n, [NAN] * (n * n), 0, room), (4, 0, 0))
+            for wrong in ([], numbers[:-1], numbers + [0.0]):
+                self.assertEqual(self.column(1, n, wrong, 1), (3, 0, 0))
+                self.assertEqual(self.column(1, n, wrong, 0, 0), (3, 0, 0))
+
+    def test_stages(self) -> None:
+        """A stage out of range is 5, after 4 and before 6."""
+        for n in (1, 3, 32):
+            for bad in (0, n + 1, 2 ** 63, 2 ** 64 - 1):
+                self.assertEqual(self.column(1, n, [NAN] * (n * n), bad), (5, 0, 0))
+                self.assertEqual(self.column(1, n, [1.0] * (n * n), bad, n - 1), (4, 0, 0))
+
+    def test_reading_and_size(self) -> None:
+        """Readings other than 1 and sizes out of range, also those at which n × n would not fit a word."""
+        for reading in (0, 2, 3, 2 ** 63, 2 ** 64 - 1):
+            self.assertEqual(self.column(reading, 0, [], 0, 0), (1, 0, 0))
+            self.assertEqual(self.column(reading, 1, [1.0], 1), (1, 0, 0))
+        for n in (0, 33, 2 ** 32, 2 ** 63, 2 ** 64 - 1):
+            self.assertEqual(self.column(1, n, [NAN], 0, 0), (2, 0, 0))
+            self.assertEqual(self.column(1, n, [], 1, 5), (2, 0, 0))
+        self.assertEqual(self.column(1, 33, [1.0] * 1089, 1), (2, 0, 0))
+
+    def test_bits_of_nan(self) -> None:
+        """NaN patterns of every kind are 6."""
+        for word in (0x7ff0000000000001, 0x7ff8000000000000, 0xffffffffffffffff, 0xfff0000000000001):
+            self.assertEqual(self.column(1, 1, [number_of(word)], 1), (6, 1, 1))
+
+
 class FileTest(HostTest):
     """File reading, into numbers and into words."""
 
@@ -334,6 +449,7 @@ class ThreadTest(HostTest):
             try:
                 for _ in range(8):
                     self.table(*mine)
+                    self.column(*mine, mine.n)
                     self.file(file_of(mine))
             except Exception as failure:
                 failures.append(failure)
@@ -392,9 +508,11 @@ class LinkTest(HostTest):
             return 1, reference.refused_line(answer)
         rows = [" ".join(f"{x:.17g}" for x in answer.entries[i * n:(i + 1) * n]) for i in range(n)]
         last = reference.entry(loaded.reading, n, numbers, 1, n)
+        column = " ".join(f"{x:.17g}" for x in answer.entries[n - 1::n])
         return 0, "".join(f"{line}\n" for line in [
             *rows, f"each within a factor (1 + 2^-53)^{answer.allowance} of the exact number",
-            f"stage 1 to stage {n}: {last.value:.17g} seconds"])
+            f"stage 1 to stage {n}: {last.value:.17g} seconds",
+            *([f"seconds at stage {n} from each stage: {column}"] if loaded.reading == 1 else [])])
 
     def test_example(self) -> None:
         """examples/host.c compiles as C99 without a warning, and prints tables and refusals."""

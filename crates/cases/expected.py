@@ -9,22 +9,26 @@ at the edge of the range, and random sheets of both readings with every n from 1
 and of one entry where a file cannot: sizes out of range, sheets and areas of a wrong length, stages out of range.
 Files for both readers: cut at every byte, a byte of a record's head changed, lengths, one byte more, a small area.
 Sheets of every n for both writers, NaN patterns among them, each loaded again; calls that saving refuses.
-Before an accepted table is written it is compared with the exact inverse by the accuracy rule.
+One column: its questions in order, every column of document 01's sheets of reading 1, and random sheets with every
+n from 1 to 32, among them many whose table is out of range while the column is not.
+Before an accepted table or column is written it is compared with the exact inverse by the accuracy rule.
 """
 from __future__ import annotations
 
 import random
 import struct
 import sys
+from collections import Counter
 from pathlib import Path
 from typing import Iterator, NamedTuple, Union
 
 sys.path.insert(0, str(Path(__file__).resolve().parents[2] / "tools"))
 sys.dont_write_bytecode = True
 
-from reference import (INF, LARGEST, LIMIT, NAN, P_SHEET, SHEET_ROW, Loaded, Refused, Saved, Style, Table,  # noqa: E402
-                       accuracy, bits_of, dwell, edge_pair, entry, load, make_file, make_file_words, number_of, random_sheet,
-                       random_style, record, save, table, table_of_stream, word_of)
+from reference import (INF, LARGEST, LIMIT, NAN, P_SHEET, SHEET_ROW, Column, Loaded, Refused, Saved,  # noqa: E402
+                       Style, Table, accuracy, bits_of, column, column_accuracy, dwell, edge_pair, entry, load,
+                       make_file, make_file_words, number_of, random_sheet, random_style, range_facts, record,
+                       save, sheet_parts, table, table_of_stream, uneven_sheet, word_of)
 
 Sheet = tuple[int, int, list[float]]  # reading, n, numbers
 
@@ -330,6 +334,102 @@ def calls() -> list[Case]:
         *every_entry(1, [1.0, 0.0, 0.0, 2.0 ** 1022]), *large(1), *large(2)]
 
 
+# ==== One column ====
+
+class Asked(NamedTuple):
+    """A sheet of reading 1 and the stage whose column is asked for."""
+    n: int
+    sheet: list[float]
+    stage: int
+
+    def kind(self) -> tuple[bool, bool]:
+        """Whether the whole table is accepted, and whether the column is."""
+        return (accepted((1, self.n, self.sheet)),
+                isinstance(column(1, self.n, self.sheet, self.stage, self.n), Column))
+
+
+def column_case(reading: int, n: int, sheet: list[float], stage: int, room: int) -> Case:
+    answer = column(reading, n, sheet, stage, room)
+    area = [AREA_NUMBER] * room
+    if isinstance(answer, Column):
+        if not all(error.within for error in column_accuracy(n, sheet, {stage: answer.entries})):
+            raise ArithmeticError(f"column {stage} of {sheet}: not within the allowance")
+        area[:n] = answer.entries
+    return Case(packed("c", [reading, n, room, stage, *(bits_of(x) for x in sheet)]),
+                line(answer, [answer.allowance] if isinstance(answer, Column) else [], [bits_of(x) for x in area]))
+
+
+def column_questions() -> Iterator[Case]:
+    """Questions 1 to 5, each before the next and before the numbers are looked at; room to spare and none."""
+    nans = [NAN] * 4
+    for reading, n, sheet, stage, room in [
+            (0, 0, [NAN], 0, 0), (2, 0, [NAN], 0, 0), (3, 33, [], 0, 0), (2 ** 63, 2, P_SHEET, 1, 2),
+            (2, 2, P_SHEET, 1, 2), (1, 0, [], 0, 0), (1, 33, [1.0] * 1089, 1, 33), (1, 2 ** 63, [NAN], 0, 0),
+            (1, 2 ** 64 - 1, [1.0], 1, 1), (1, 2, [], 0, 0), (1, 2, nans[:3], 1, 0), (1, 2, [*nans, NAN], 3, 2),
+            (1, 2, nans, 0, 1), (1, 2, nans, 1, 0), (1, 1, [NAN], 2, 0), (1, 2, nans, 0, 2), (1, 2, nans, 3, 2),
+            (1, 2, nans, 2 ** 63, 4), (1, 2, nans, 1, 2), (1, 1, [4.0], 1, 0), (1, 1, [4.0], 1, 1),
+            (1, 1, [4.0], 1, 3)]:
+        yield column_case(reading, n, sheet, stage, room)
+    for room in (1, 2, 4):
+        for stage in range(4):
+            yield column_case(1, 2, P_SHEET, stage, room)
+
+
+def every_column() -> Iterator[Asked]:
+    """Every column of the sheets above that have reading 1, and of one in which only the last division is out."""
+    for reading, n, sheet in [*DOCUMENT, *ORDER, *ZEROS, *RANGE, *ORDERS_OF_STEPS, *steps_out_of_range(),
+                              (1, 2, [2.0 ** 500, -2.0 ** -600, 0.0, 1.0])]:
+        for stage in range(1, n + 1) if reading == 1 else ():
+            yield Asked(n, sheet, stage)
+
+
+def column_edges(rng: random.Random, count: int) -> Iterator[Asked]:
+    """Sheets of few stages on either side of the edge of one column's range."""
+    for _ in range(count):
+        n = rng.randint(1, 4)
+        stage = rng.randint(1, n)
+        for sheet in edge_pair(rng, 1, n, uneven_sheet(rng, n), stage) or ():
+            yield Asked(n, sheet, stage)
+
+
+def partly_in_range(rng: random.Random, n: int) -> tuple[list[float], list[int], list[int]]:
+    """A sheet of three stages or more whose table is out of range, with the stages whose columns are not,
+    and those whose columns are."""
+    while True:
+        sheet = uneven_sheet(rng, n)
+        facts = range_facts(*sheet_parts(n, sheet))
+        if facts.shared and len(set(facts.columns)) == 2:
+            stages = range(1, n + 1)
+            return (sheet, [stage for stage in stages if facts.columns[stage - 1]],
+                    [stage for stage in stages if not facts.columns[stage - 1]])
+
+
+def some_columns(rng: random.Random) -> Iterator[Asked]:
+    """For each n from 1 to 32 one column: of an accepted table where n is odd, the first, the middle and the last
+    in turn; of a table out of range where n is even. For few stages also a refused column, and more of both."""
+    for n in [*range(1, LIMIT + 1), *[3, 4, 5, 6, 7] * 3]:
+        if n % 2 == 1 or n == 2:
+            style = STYLES[n * 5 % len(STYLES)]
+            yield Asked(n, accepted_sheet(rng, 1, n, style)[2], [1, (n + 1) // 2, n][n // 2 % 3])
+        if n % 2 == 0 and n > 2 or n in (3, 5, 7):
+            sheet, inside, outside = partly_in_range(rng, n)
+            yield Asked(n, sheet, rng.choice(inside))
+            if n <= 12:
+                yield Asked(n, sheet, rng.choice(outside))
+
+
+def columns(rng: random.Random) -> Iterator[Case]:
+    """All cases of one column; columns that are accepted with their table, without it, and not, come up often."""
+    asked = [*every_column(), *column_edges(rng, 12), *some_columns(rng)]
+    kinds = Counter(one.kind() for one in asked)
+    assert min(kinds[True, True], kinds[False, True], kinds[False, False]) >= 20 and not kinds[True, False]
+    yield from column_questions()
+    for at, one in enumerate(asked):
+        yield column_case(1, one.n, one.sheet, one.stage, one.n + at % 3)
+
+
+# ==== Files ====
+
 def changed(data: bytes, at: int, new: bytes) -> bytes:
     """The file with these bytes in the place of its own."""
     return data[:at] + new + data[at + len(new):]
@@ -349,7 +449,7 @@ def damaged(data: bytes, n: int, room: int) -> list[Case]:
 def cases() -> list[Case]:
     one_nan = make_file_words(2, 1, [0xFFF4000012345678])
     return [*(dwell_case(data) for data in inputs()), *calls(), *damaged(make_file(1, 2, P_SHEET), 2, 5),
-            *damaged(one_nan, 1, 5), *saves(random.Random(20260202))]
+            *damaged(one_nan, 1, 5), *saves(random.Random(20260202)), *columns(random.Random(20260303))]
 
 
 def main(arguments: list[str]) -> int:

@@ -1,5 +1,5 @@
--- The accuracy rule of document 01, for both readings.
-use Prim.Native.Nat.{ℕ, zero, _*_, _<_}
+-- The accuracy rule of document 01, for both readings, and of one column.
+use Prim.Native.Nat.{ℕ, zero, _-_, _*_, _^_, _<_}
 use native.Mathlib.Omega.{arith}
 use mathlib.Core.Bool.{Bool, true, false, _||_}
 use mathlib.Core.List.{List}
@@ -8,34 +8,39 @@ use mathlib.Core.Path.{_≡_, refl, sym, subst}
 use lib.Dec.{T, eqb, eqb→eq}
 use lib.ListN.{length}
 use lib.Ieee.{Float}
+use lib.Ieee.Fits.{and-l, and-r}
 use Rattle.exact.specs.Systems.{Equations, withRight, Solves, AllOut}
 use Rattle.exact.specs.Elimination.{Existence}
 use Rattle.exact.proofs.Elimination.{existence}
 use Rattle.exact.proofs.Near.{near-grow}
-use Rattle.definitions.specs.LeavingRates.{downward, quotient, inRange}
+use Rattle.definitions.specs.LeavingRates.{downward, quotient, shared, column}
 use Rattle.definitions.specs.Margins as Margins
 use Rattle.definitions.specs.Sheet.{size, diagonal, system, allowance}
 use Rattle.definitions.specs.Matrix.{matrix, everyStage}
 use Rattle.definitions.specs.Table.{entry, everyStepInRange}
-use Rattle.definitions.specs.Accuracy.{Binary64, Accurate, AccuracyRule}
-use Rattle.definitions.specs.Questions.{pass, question1, question2, question3, question4, question10, numberQuestions, tableInput, tableQuestions, Accepted, _then_}
+use Rattle.definitions.specs.Fractions.{Fraction}
+use Rattle.definitions.specs.Accuracy.{Binary64, Within, OnlyInverse, Accurate, AccurateColumn, AccuracyRule}
+use Rattle.definitions.specs.Column.{columnInput, columnInRange, columnQuestions}
+use Rattle.accuracy.specs.ColumnRule.{InverseRule, ColumnRule}
+use Rattle.definitions.specs.Questions.{pass, ask, question1, question2, question3, question4, question10, numberQuestions, tableInput, tableQuestions, Accepted, _then_}
 use Rattle.rounding.specs.Good.{one·units}
-use Rattle.rates_accuracy.specs.LeavingRatesAccuracy.{inUnits, identityColumn, Computed, EngineWithin, EngineAccuracy}
-use Rattle.inverse.specs.Reduction.{delta, SystemColumns, NearTable}
+use Rattle.rates_accuracy.specs.LeavingRatesAccuracy.{inUnits, identityColumn, EngineWithin, EngineAccuracy}
+use Rattle.inverse.specs.Reduction.{delta, fraction, EntryReduction, SystemColumns}
 use Rattle.inverse.specs.ExactRatios.{RatiosExist}
 use Rattle.inverse.specs.RowForms.{InUnits}
-use Rattle.inverse.specs.ReducedReadings.{LeavingRatesReduced, MarginsReduced}
+use Rattle.inverse.specs.ReducedReadings.{LeavingRatesInverse, MarginsReduced}
 use Rattle.margins_accuracy.specs.MarginsAccuracy.{GoodMargins, sizesInUnits, marginsInUnits, MarginsAccuracy}
 use Rattle.steps.proofs.QuestionLaws.{then-first, then-next, ask-yes}
-use Rattle.rates_accuracy.proofs.Input.{table-numbers, size-is, diagonal-is, input-good, input-positive, input-out}
+use Rattle.rates_accuracy.proofs.Input.{table-numbers, column-numbers, size-is, diagonal-is, input-good, input-positive, input-out}
 use Rattle.rates_accuracy.proofs.LeavingRatesRange.{table-shared, table-column}
 use Rattle.rates_accuracy.proofs.LeavingRatesAccuracy.{engine-accuracy}
 use Rattle.inverse.proofs.ExactRatios.{ratios-exist}
-use Rattle.inverse.proofs.ReducedReadings.{leaving-rates-reduced, margins-reduced}
+use Rattle.inverse.proofs.Reduction.{entry-reduction}
+use Rattle.inverse.proofs.ReducedReadings.{leaving-rates-inverse, margins-reduced}
 use Rattle.margins_accuracy.proofs.MarginsAccuracy.{margins-accuracy}
 use Rattle.exact.proofs.Run.{cube}
 
--- Reading 1: the exact solution of each column exists, and the engine's quotients are near it.
+-- Reading 1: the exact solution of each column exists.
 module _ (n : ℕ) (sheet : List Float) (fit : Binary64 sheet) (e : numberQuestions 1 n sheet ≡ pass) where
   equations : Equations
   equations = inUnits (system n sheet) (λ i. zero)
@@ -48,31 +53,55 @@ module _ (n : ℕ) (sheet : List Float) (fit : Binary64 sheet) (e : numberQuesti
   unfolding equations Existence
   solution j = existence 0 n (withRight equations (λ i. delta i j one·units)) (record { out = gets-out .out })
 
-  pub first-reading :
-      T (inRange n (downward n (system n sheet)))
-      → Accurate n everyStage (4 * (n * n * n)) (matrix 1 n sheet) (quotient n (downward n (system n sheet)))
-  unfolding LeavingRatesReduced EngineAccuracy EngineWithin identityColumn equations system
-  first-reading r =
-      leaving-rates-reduced n (4 * (n * n * n)) sheet (quotient n (downward n (system n sheet))) equations
-      (λ j. solution j .0) (λ j. solution j .1) units-of gets-out columns table
-    where
-      computed : (i j : ℕ) → i < n → j < n → Computed (2 * (n * n * n)) (quotient n (downward n (system n sheet)) i j) (solution j .1 i) (solution j .0)
-      computed i j hi hj =
-          engine-accuracy n j (system n sheet) (input-good 1 n sheet fit e) (input-out n sheet fit e) (table-shared n (downward n (system n sheet)) r) (table-column n (downward n (system n sheet)) r j hj)
-          (solution j .0) (solution j .1) (solution j .3) i hi
+  X : ℕ → ℕ → Fraction
+  X i j = fraction (solution j .1 i) (solution j .0)
 
+  -- Questions 6 to 9 alone: these solutions are the one inverse.
+  only-inverse : OnlyInverse n everyStage (matrix 1 n sheet) X
+  unfolding LeavingRatesInverse equations system X
+  only-inverse = leaving-rates-inverse n sheet equations (λ j. solution j .0) (λ j. solution j .1) units-of gets-out columns
+    where
       units-of : InUnits n sheet (λ i. equations i .size) (λ i. equations i .exit)
       units-of = record { size-good = λ i j hi hj o. size-is 1 n sheet fit e i j hi hj o .good; size-units = λ i j hi hj o. refl; diagonal-good = λ i h. diagonal-is 1 n sheet fit e i h .good; diagonal-units = λ i h. refl }
 
       columns : SystemColumns n equations (λ i. one·units) (λ j. solution j .0) (λ j. solution j .1)
       columns = record { positive = λ j h. solution j .2; solves = λ j h. solution j .3 }
 
-      table : NearTable n everyStage (4 * (n * n * n)) (quotient n (downward n (system n sheet))) (λ j. solution j .0) (λ j. solution j .1)
-      table =
-          record {
-            good = λ i j si sj. computed i j (si .below) (sj .below) .good;
-            near = λ i j si sj. near-grow {e = 2 * (n * n * n)} (omega arith) (computed i j (si .below) (sj .below) .near);
-          }
+  -- The range of the shared steps and of column j's: the engine's quotients of that column are near it.
+  column-within : (j : ℕ) → T (shared n (downward n (system n sheet))) → T (column n (downward n (system n sheet)) j)
+      → (i : ℕ) → i < n → Within (allowance 1 n) (quotient n (downward n (system n sheet)) i j) (X i j)
+  unfolding EngineAccuracy EngineWithin EntryReduction identityColumn equations X allowance
+  column-within j t u i h =
+      let computed =
+      engine-accuracy n j (system n sheet) (input-good 1 n sheet fit e) (input-out n sheet fit e) t u (solution j .0) (solution j .1) (solution j .3) i h in
+      entry-reduction (4 * n ^ 3) (quotient n (downward n (system n sheet)) i j) (solution j .1 i) (solution j .0) (solution j .2) (computed .good)
+      (near-grow {e = 2 * (n * n * n)} (omega (arith, cube n)) (computed .near))
+
+  pub accurate-column : (j : ℕ) → T (columnInRange n sheet j) → AccurateColumn n everyStage (allowance 1 n) (matrix 1 n sheet) j (λ i. entry 1 n sheet i j)
+  unfolding columnInRange entry
+  accurate-column j t =
+      let at = downward n (system n sheet) in
+      record {
+        X = X;
+        exact = only-inverse;
+        within = λ i s. column-within j (and-l (shared n at) (column n at j) t) (and-r (shared n at) (column n at j) t) i (s .below);
+      }
+
+  -- The whole table: every column.
+  first-table : T (everyStepInRange 1 n sheet) → Accurate n everyStage (allowance 1 n) (matrix 1 n sheet) (entry 1 n sheet)
+  unfolding everyStepInRange entry
+  first-table r =
+      let at = downward n (system n sheet) in
+      record {
+        X = X;
+        inverse = only-inverse .inverse;
+        unique = only-inverse .unique;
+        within = λ i j si sj. column-within j (table-shared n at r) (table-column n at r j (sj .below)) i (si .below);
+      }
+
+pub inverse-rule : InverseRule
+unfolding InverseRule
+inverse-rule n sheet fit e = (X n sheet fit e, only-inverse n sheet fit e)
 
 -- Reading 2: the ratios exist, and the margins' entries are near the solutions that they give.
 pub second-reading :
@@ -102,14 +131,7 @@ reading-is reading e =
     go false true f g t = inr (g tt)
     go false false f g t = absurd t
 
--- The tables of the two readings, under the table's own names.
-first-table :
-    (n : ℕ) (sheet : List Float) → Binary64 sheet → numberQuestions 1 n sheet ≡ pass → T (everyStepInRange 1 n sheet)
-    → Accurate n everyStage (allowance 1 n) (matrix 1 n sheet) (entry 1 n sheet)
-unfolding everyStepInRange entry allowance
-first-table n sheet fit e r =
-    subst (λ E. Accurate n everyStage (4 * E) (matrix 1 n sheet) (entry 1 n sheet)) (sym (cube n)) (first-reading n sheet fit e r)
-
+-- The table of reading 2 under the table's own names.
 second-table :
     (n : ℕ) (sheet : List Float) → Binary64 sheet → numberQuestions 2 n sheet ≡ pass → T (everyStepInRange 2 n sheet)
     → Accurate n everyStage (allowance 2 n) (matrix 2 n sheet) (entry 2 n sheet)
@@ -137,3 +159,10 @@ accuracy-rule reading n sheet fit accepted =
     (then-first (question1 reading) (question2 n then question3 n (length sheet) then question4 (n * n) (n * n) then numberQuestions reading n sheet) input)
     (table-numbers reading n sheet (n * n) input)
     (ask-yes (everyStepInRange reading n sheet) 10 0 0 range)
+
+pub column-rule : ColumnRule
+unfolding ColumnRule columnQuestions
+column-rule reading n sheet room stage fit accepted =
+    let input = then-first (columnInput reading n sheet room stage) (ask (columnInRange n sheet (stage - 1)) 10 0 0) accepted in
+    accurate-column n sheet fit (column-numbers reading n sheet room stage input) (stage - 1)
+    (ask-yes (columnInRange n sheet (stage - 1)) 10 0 0 (then-next (columnInput reading n sheet room stage) (ask (columnInRange n sheet (stage - 1)) 10 0 0) accepted))

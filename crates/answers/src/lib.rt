@@ -21,6 +21,18 @@ pub enum Table {
     },
 }
 
+// One column: the allowance of its numbers.
+pub enum Column {
+    Allowed {
+        allowance: usize,
+    },
+    Refused {
+        number: usize,
+        row: usize,
+        column: usize,
+    },
+}
+
 // One entry: a number of seconds.
 pub enum Entry {
     Seconds {

@@ -119,11 +119,18 @@ fn words(case: &[u8], from: usize, sheet: &mut [u64]) -> usize
 
 // t: reading, n, the length of the answer area, and the sheet's numbers.
 fn try_table(reading: usize, n: usize, sheet: &[f64], area: &mut [f64]) {
-    let told = planner::whole_table(reading, n, sheet, area);
     let mut allowance = 0;
     let mut row = 0;
     let mut column = 0;
-    let number = out_places::hand_allowance(told, &mut allowance, &mut row, &mut column);
+    let number = table_calls::table(
+        reading,
+        n,
+        sheet,
+        area,
+        &mut allowance,
+        &mut row,
+        &mut column,
+    );
     write_refusal(number, row, column);
     if number == 0 {
         write_count(allowance);
@@ -144,12 +151,47 @@ fn run_table(case: &[u8]) {
     );
 }
 
+// c: reading, n, the length of the answer area, the stage, and the sheet's numbers.
+fn try_column(reading: usize, n: usize, sheet: &[f64], stage: usize, area: &mut [f64]) {
+    let mut allowance = 0;
+    let mut row = 0;
+    let mut column = 0;
+    let number = table_calls::column(
+        reading,
+        n,
+        sheet,
+        stage,
+        area,
+        &mut allowance,
+        &mut row,
+        &mut column,
+    );
+    write_refusal(number, row, column);
+    if number == 0 {
+        write_count(allowance);
+    }
+    write_numbers(area);
+}
+
+fn run_column(case: &[u8]) {
+    let mut sheet = [0.0; PLACES];
+    let given = numbers(case, 4, &mut sheet);
+    let mut area = [0.5; PLACES];
+    let room = least(count(case, 2), PLACES);
+    try_column(
+        count(case, 0),
+        count(case, 1),
+        &sheet[..given],
+        count(case, 3),
+        &mut area[..room],
+    );
+}
+
 fn try_entry(reading: usize, n: usize, sheet: &[f64], i: usize, j: usize) {
-    let told = planner::one_entry(reading, n, sheet, i, j);
     let mut seconds = 0.0;
     let mut row = 0;
     let mut column = 0;
-    let number = out_places::hand_seconds(told, &mut seconds, &mut row, &mut column);
+    let number = table_calls::entry(reading, n, sheet, i, j, &mut seconds, &mut row, &mut column);
     write_refusal(number, row, column);
     if number == 0 {
         write_word(rounding::to_word(seconds));
@@ -293,6 +335,7 @@ fn run_case(case: &[u8]) {
     let call = case[0];
     match call {
         b't' => run_table(case),
+        b'c' => run_column(case),
         b'e' => run_entry(case),
         b'a' => run_entries(case),
         b'f' => run_file(case),

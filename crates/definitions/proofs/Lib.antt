@@ -2,3 +2,4 @@ pub mod Computing
 pub mod Starred
 pub mod ExactExamples
 pub mod FileExamples
+pub mod ColumnExamples

@@ -26,12 +26,23 @@ pub record Within (E : ℕ) (x : Float) (y : Fraction) : Type 0 where
   pub upper : value x ≼ y *ᶠ growth E
   pub lower : y ≼ value x *ᶠ growth E
 
+-- "There is such an X, and only one": this X.
+pub record OnlyInverse (n : ℕ) (on : ℕ → Bool) (A X : ℕ → ℕ → Fraction) : Type 0 where
+  pub inverse : Inverse n on A X
+  pub unique : (Y : ℕ → ℕ → Fraction) → Inverse n on A Y → (i j : ℕ) → Stage n on i → Stage n on j → X i j ≈ Y i j
+
 -- "There is such an X, and only one; and for every i and j", with x the entry (i, j) of the table and y that of X.
 pub record Accurate (n : ℕ) (on : ℕ → Bool) (E : ℕ) (A : ℕ → ℕ → Fraction) (x : ℕ → ℕ → Float) : Type 0 where
   pub X : ℕ → ℕ → Fraction
   pub inverse : Inverse n on A X
   pub unique : (Y : ℕ → ℕ → Fraction) → Inverse n on A Y → (i j : ℕ) → Stage n on i → Stage n on j → X i j ≈ Y i j
   pub within : (i j : ℕ) → Stage n on i → Stage n on j → Within E (x i j) (X i j)
+
+-- The same for every i and one j: the numbers x of column j alone (document 02, U2).
+pub record AccurateColumn (n : ℕ) (on : ℕ → Bool) (E : ℕ) (A : ℕ → ℕ → Fraction) (j : ℕ) (x : ℕ → Float) : Type 0 where
+  pub X : ℕ → ℕ → Fraction
+  pub exact : OnlyInverse n on A X
+  pub within : (i : ℕ) → Stage n on i → Within E (x i) (X i j)
 
 -- The numbers of a lent sheet are binary64 numbers.
 unfoldable pub Binary64 : List Float → Type 0

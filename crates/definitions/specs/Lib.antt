@@ -9,9 +9,11 @@ pub mod Services
 pub mod Fractions
 pub mod Matrix
 pub mod Accuracy
+pub mod Column
 pub mod File
 pub mod Saving
 pub mod Dwell
 pub mod Starred
 pub mod ExactExamples
 pub mod FileExamples
+pub mod ColumnExamples

@@ -5,7 +5,8 @@
 ghost use Rattle.definitions.specs.File.{fileNumberArea, fileWordArea};
 ghost use Rattle.definitions.specs.Saving.{savedNumbers, savedWords};
 ghost use Rattle.file_calls.specs.FileCalls.{FileCall, SaveCall};
-ghost use Rattle.hosts.specs.HostCalls.{TableCall, EntryCall, ReportCall};
+ghost use Rattle.table_calls.specs.TableCalls.{TableCall, ColumnCall, EntryCall};
+ghost use Rattle.hosts.specs.HostCalls.{ReportCall};
 
 // The whole table in the first n × n places of the answer area, and its allowance.
 #[no_mangle]
@@ -20,8 +21,24 @@ pub extern "C" fn yulanbowls_table(
 ) -> usize
     ensures { λ r. ⌜ TableCall reading n (now (sheet .entry)) (now (answer .entry)) (now (answer .exit)) (now (allowance .entry)) (now (allowance .exit)) (now (row .exit)) (now (column .exit)) r ⌝ }
 {
-    let table = planner::whole_table(reading, n, sheet, answer);
-    out_places::hand_allowance(table, allowance, row, column)
+    table_calls::table(reading, n, sheet, answer, allowance, row, column)
+}
+
+// The column of a stage, counted from 1, in the first n places of the answer area, and its allowance.
+#[no_mangle]
+pub extern "C" fn yulanbowls_column(
+    reading: usize,
+    n: usize,
+    sheet: &[f64],
+    stage: usize,
+    answer: &mut [f64],
+    allowance: &mut usize,
+    row: &mut usize,
+    column: &mut usize,
+) -> usize
+    ensures { λ r. ⌜ ColumnCall reading n (now (sheet .entry)) stage (now (answer .entry)) (now (answer .exit)) (now (allowance .entry)) (now (allowance .exit)) (now (row .exit)) (now (column .exit)) r ⌝ }
+{
+    table_calls::column(reading, n, sheet, stage, answer, allowance, row, column)
 }
 
 // Entry (i, j), counted from 1: the seconds that a request entering at stage i spends at stage j.
@@ -38,8 +55,7 @@ pub extern "C" fn yulanbowls_entry(
 ) -> usize
     ensures { λ r. ⌜ EntryCall reading n (now (sheet .entry)) i j (now (seconds .entry)) (now (seconds .exit)) (now (row .exit)) (now (column .exit)) r ⌝ }
 {
-    let entry = planner::one_entry(reading, n, sheet, i, j);
-    out_places::hand_seconds(entry, seconds, row, column)
+    table_calls::entry(reading, n, sheet, i, j, seconds, row, column)
 }
 
 // A sheet file's numbers in the first n × n places of the area, each from its bits.

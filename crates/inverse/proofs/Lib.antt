@@ -1,7 +1,7 @@
 mod Integers
 pub mod PartialSums
 mod SignedFractions
-mod Reduction
+pub mod Reduction
 pub mod ExactRatios
 pub mod ExactScaled
 mod RowForms

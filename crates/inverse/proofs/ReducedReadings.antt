@@ -1,21 +1,21 @@
--- The accuracy rule of each reading: its row form and its regularity put into the reduction.
+-- The rule of each reading: its row form and its regularity put into the reduction.
 use Prim.Native.Nat.{_+_, _*_}
 use Rattle.exact.specs.Systems.{diag}
 use Rattle.definitions.specs.Matrix.{matrix, everyStage}
 use Rattle.rounding.specs.Good.{one·units}
-use Rattle.inverse.specs.Reduction.{Apart, Reduction, SystemReduction}
+use Rattle.inverse.specs.Reduction.{Apart, Reduction, SystemInverse}
 use Rattle.inverse.specs.ExactRatios.{H}
 use Rattle.inverse.specs.RowForms.{LeavingRatesRows, MarginsRows}
 use Rattle.inverse.specs.ExactScaled.{MarginsRegular}
-use Rattle.inverse.specs.ReducedReadings.{LeavingRatesReduced, MarginsReduced}
-use Rattle.inverse.proofs.Reduction.{reduction, system-reduction}
+use Rattle.inverse.specs.ReducedReadings.{LeavingRatesInverse, MarginsReduced}
+use Rattle.inverse.proofs.Reduction.{reduction, system-inverse}
 use Rattle.inverse.proofs.RowForms.{leaving-rates-rows, margins-rows}
 use Rattle.inverse.proofs.ExactScaled.{margins-regular}
 
-pub leaving-rates-reduced : LeavingRatesReduced
-unfolding LeavingRatesReduced SystemReduction LeavingRatesRows diag
-leaving-rates-reduced n E sheet x S Z z h =
-    system-reduction n E (matrix 1 n sheet) x S (λ i. one·units) Z z
+pub leaving-rates-inverse : LeavingRatesInverse
+unfolding LeavingRatesInverse SystemInverse LeavingRatesRows diag
+leaving-rates-inverse n sheet S Z z h =
+    system-inverse n (matrix 1 n sheet) S (λ i. one·units) Z z
     (leaving-rates-rows n sheet (λ i. S i .size) (λ i. S i .exit) h)
 
 pub margins-reduced : MarginsReduced

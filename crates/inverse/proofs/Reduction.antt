@@ -3,26 +3,22 @@
 use mathlib.Core.Path.{_≡_, refl, sym, ap, _∙_, subst}
 use mathlib.Core.Logic.{_≢_, inr}
 use mathlib.Core.Bool.{Bool, true, false, not, cond}
-use Prim.Native.Nat.{ℕ, _+_, _*_, _/_, _^_, _<_, max}
-use native.Mathlib.Nat.{mul-zero, mul-pos, le-max-left, le-antisymm, le-of-eq}
+use Prim.Native.Nat.{ℕ, _+_, _*_, _/_, _^_, _<_}
+use native.Mathlib.Nat.{mul-zero, mul-pos, le-antisymm, le-of-eq}
 use native.Mathlib.Omega.{arith}
 use lib.Dec.{T, T-not, eqb, lit<}
-use lib.IntN.{pos}
-use lib.Ieee.{Float}
 use Rattle.exact.specs.Chains.{In}
-use Rattle.exact.specs.Near.{Near, base, next}
+use Rattle.exact.specs.Near.{base, next}
 use Rattle.exact.specs.Sums.{sum}
 use Rattle.exact.specs.Systems.{Equations, diag, mix, AllOut}
 use Rattle.exact.specs.Comparison.{Comparison}
 use Rattle.exact.proofs.Comparison.{comparison}
 use Rattle.exact.proofs.CommonDenominator.{product, product-pos, over-product}
 use Rattle.exact.proofs.Sums.{sum-add, zero-sum, sum-factor}
-use Rattle.definitions.specs.Numbers.{units}
 use Rattle.definitions.specs.Fractions.{Fraction, _≈_, whole, _*ᶠ_, total}
 use Rattle.definitions.specs.Matrix.{Stage, everyStage, Inverse}
-use Rattle.definitions.specs.Accuracy.{growth, Within}
-use Rattle.rounding.specs.Good.{Good, one·units}
-use Rattle.inverse.specs.Reduction.{plusPart, minusPart, Ratio, delta, RowForm, Columns, Regular, Apart, Reduction, SystemReduction}
+use Rattle.definitions.specs.Accuracy.{growth}
+use Rattle.inverse.specs.Reduction.{plusPart, minusPart, Ratio, delta, RowForm, Columns, Regular, Apart, fraction, InverseReduction, EntryReduction, Reduction, SystemInverse}
 use Rattle.inverse.proofs.PartialSums.{delta-other, delta-times, sum-delta, sum-mix}
 use Rattle.rounding.proofs.Laws.{one-pos, good-finite}
 use Rattle.inverse.proofs.SignedFractions.{times, own-ratio, ratio-as, ratio-carry, ratios-agree, ratio-of-equal, same-ratio, ratio-scale, ratio-mul, plain-mul, ratio-total, plain-le, plain-sign, whole-ratio, max-one, value-ratio}
@@ -113,17 +109,14 @@ pub growth-ratio : (E : ℕ) → Ratio (growth E) (next ^ E) 0 (base ^ E)
 unfolding growth base next
 growth-ratio E = record { across = refl }
 
--- z/d, for a positive d.
-abbrev pub quotient : ℕ → ℕ → Fraction
-quotient z d = record { num = pos z; den = max 1 d; positive = le-max-left 1 d }
+pub fraction-ratio : (z d : ℕ) → 0 < d → Ratio (fraction z d) z 0 d
+fraction-ratio z d l = record { across = rw (max-one d l) (omega arith) }
 
-pub quotient-ratio : (z d : ℕ) → 0 < d → Ratio (quotient z d) z 0 d
-quotient-ratio z d l = record { across = rw (max-one d l) (omega arith) }
-
-pub entry-within : (E : ℕ) (x : Float) (z d : ℕ) → 0 < d → Good x → Near E (units x * d) (z * one·units) → Within E x (quotient z d)
-entry-within E x z d l g h =
+pub entry-reduction : EntryReduction
+unfolding EntryReduction
+entry-reduction E x z d l g h =
     let v = value-ratio g in
-    let r = quotient-ratio z d l in
+    let r = fraction-ratio z d l in
     record {
       number = good-finite g;
       x-sign = plain-sign one-pos v;
@@ -145,15 +138,15 @@ module _
     (a : ℕ → ℕ) (t : ℕ → ℕ → ℕ) (c : ℕ → ℕ) (Z : ℕ → ℕ) (z : ℕ → ℕ → ℕ)
     (rows : RowForm n A a t c) (apart : Apart n on t) (columns : Columns n on a t c Z z)
   where
-    X-column : (j : ℕ) → Stage n on j → SignedColumn n on (λ i. quotient (z j i) (Z j)) (z j) (λ i. 0) (Z j)
+    X-column : (j : ℕ) → Stage n on j → SignedColumn n on (λ i. fraction (z j i) (Z j)) (z j) (λ i. 0) (Z j)
     X-column j s =
         let l = columns .positive j s in
-        record { positive = l; ratio = λ k o. quotient-ratio (z j k) (Z j) l }
+        record { positive = l; ratio = λ k o. fraction-ratio (z j k) (Z j) l }
 
-    pub X-inverse : Inverse n on A (λ i j. quotient (z j i) (Z j))
+    pub X-inverse : Inverse n on A (λ i j. fraction (z j i) (Z j))
     unfolding Inverse added
     X-inverse i j s o =
-        image-delta n on A a t c rows apart (λ i. quotient (z j i) (Z j)) (z j) (λ i. 0) (Z j) (X-column j o) i j s
+        image-delta n on A a t c rows apart (λ i. fraction (z j i) (Z j)) (z j) (λ i. 0) (Z j) (X-column j o) i j s
         (omega (arith, columns .row i j s o, zero-sum (λ k. t i k * 0) 0 n (λ k h. mul-zero (t i k))))
 
     -- Z·P = Z·Q + D·z for a column of another inverse, from regularity.
@@ -172,22 +165,31 @@ module _
 
     pub X-unique :
         Regular n on a t → (Y : ℕ → ℕ → Fraction) → Inverse n on A Y
-        → (i j : ℕ) → Stage n on i → Stage n on j → quotient (z j i) (Z j) ≈ Y i j
+        → (i j : ℕ) → Stage n on i → Stage n on j → fraction (z j i) (Z j) ≈ Y i j
     unfolding Inverse
     X-unique regular Y inverse i j s o =
         let (P, Q, D, y) = any-column n on (λ k. Y k j) in
         let l = columns .positive j o in
         let e = column-unique regular (λ k. Y k j) P Q D j y o (λ i s. inverse i j s o) i s in
-        same-ratio (y .positive) (ratio-carry l (quotient-ratio (z j i) (Z j) l) (omega (arith, e))) (y .ratio i s)
+        same-ratio (y .positive) (ratio-carry l (fraction-ratio (z j i) (Z j) l) (omega (arith, e))) (y .ratio i s)
 
-pub reduction : Reduction
-unfolding Reduction
-reduction n on E A x a t c Z z rows apart columns regular table =
+pub inverse-reduction : InverseReduction
+unfolding InverseReduction
+inverse-reduction n on A a t c Z z rows apart columns regular =
     record {
-      X = λ i j. quotient (z j i) (Z j);
       inverse = X-inverse n on A a t c Z z rows apart columns;
       unique = X-unique n on A a t c Z z rows apart columns regular;
-      within = λ i j s o. entry-within E (x i j) (z j i) (Z j) (columns .positive j o) (table .good i j s o) (table .near i j s o);
+    }
+
+pub reduction : Reduction
+unfolding Reduction InverseReduction EntryReduction
+reduction n on E A x a t c Z z rows apart columns regular table =
+    let only = inverse-reduction n on A a t c Z z rows apart columns regular in
+    record {
+      X = λ i j. fraction (z j i) (Z j);
+      inverse = only .inverse;
+      unique = only .unique;
+      within = λ i j s o. entry-reduction E (x i j) (z j i) (Z j) (columns .positive j o) (table .good i j s o) (table .near i j s o);
     }
 
 -- ---- a system that gets out
@@ -201,14 +203,13 @@ system-regular n S out p q same i s =
     stage : (k : ℕ) → In 0 n k → Stage n everyStage k
     stage k l = record { below = omega arith; part = tt }
 
-pub system-reduction : SystemReduction
-unfolding SystemReduction Reduction Apart diag mix
-system-reduction n E A x S c Z z rows out columns table =
-    reduction n everyStage E A x (λ i. diag 0 n (S i)) (λ i. S i .size) c Z z rows
+pub system-inverse : SystemInverse
+unfolding SystemInverse InverseReduction Apart diag mix
+system-inverse n A S c Z z rows out columns =
+    inverse-reduction n everyStage A (λ i. diag 0 n (S i)) (λ i. S i .size) c Z z rows
     (λ i j s l o. absurd o)
     (record {
       positive = λ j s. columns .positive j (s .below);
       row = λ i j s o. columns .solves j (o .below) .row i (omega arith);
     })
     (system-regular n S out)
-    table

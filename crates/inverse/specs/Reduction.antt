@@ -2,7 +2,8 @@
 -- over signed fractions follows.
 use mathlib.Core.Path.{_≡_}
 use mathlib.Core.Bool.{Bool, not, cond}
-use Prim.Native.Nat.{ℕ, suc, _+_, _*_, _<_}
+use Prim.Native.Nat.{ℕ, suc, _+_, _*_, _<_, max}
+use native.Mathlib.Nat.{le-max-left}
 use lib.Dec.{T, eqb}
 use lib.IntN.{ℤ, pos, negsuc}
 use lib.Ieee.{Float}
@@ -12,7 +13,7 @@ use Rattle.exact.specs.Systems.{Equations, diag, Solves, AllOut, withRight}
 use Rattle.definitions.specs.Numbers.{units}
 use Rattle.definitions.specs.Fractions.{Fraction}
 use Rattle.definitions.specs.Matrix.{Stage, everyStage}
-use Rattle.definitions.specs.Accuracy.{Accurate}
+use Rattle.definitions.specs.Accuracy.{Within, OnlyInverse, Accurate}
 use Rattle.rounding.specs.Good.{Good, one·units}
 
 -- An integer is the difference of its two parts.
@@ -56,12 +57,32 @@ Regular n on a t =
 unfoldable pub Apart : ℕ → (ℕ → Bool) → (ℕ → ℕ → ℕ) → Type 0
 Apart n on t = (i j : ℕ) → Stage n on i → j < n → T (not (on j)) → t i j ≡ 0
 
+-- z/d, for a positive d.
+abbrev pub fraction : ℕ → ℕ → Fraction
+fraction z d = record { num = pos z; den = max 1 d; positive = le-max-left 1 d }
+
+-- Theorem: the matrix of the z_ji / Z_j is the one inverse.
+unfoldable pub InverseReduction : Type 0
+InverseReduction =
+    (n : ℕ) (on : ℕ → Bool) (A : ℕ → ℕ → Fraction)
+    (a : ℕ → ℕ) (t : ℕ → ℕ → ℕ) (c : ℕ → ℕ) (Z : ℕ → ℕ) (z : ℕ → ℕ → ℕ)
+    → RowForm n A a t c
+    → Apart n on t
+    → Columns n on a t c Z z
+    → Regular n on a t
+    → OnlyInverse n on A (λ i j. fraction (z j i) (Z j))
+
+-- Theorem, for one number x: good, and within E roundings of z/d.
+unfoldable pub EntryReduction : Type 0
+EntryReduction =
+    (E : ℕ) (x : Float) (z d : ℕ) → 0 < d → Good x → Near E (units x * d) (z * one·units) → Within E x (fraction z d)
+
 -- Each number of the table is good, and within E roundings of z_ji / Z_j.
 pub record NearTable (n : ℕ) (on : ℕ → Bool) (E : ℕ) (x : ℕ → ℕ → Float) (Z : ℕ → ℕ) (z : ℕ → ℕ → ℕ) : Type 0 where
   pub good : (i j : ℕ) → Stage n on i → Stage n on j → Good (x i j)
   pub near : (i j : ℕ) → Stage n on i → Stage n on j → Near E (units (x i j) * Z j) (z j i * one·units)
 
--- Theorem: the rule follows.
+-- Theorem: the rule of a whole table follows from the two.
 unfoldable pub Reduction : Type 0
 Reduction =
     (n : ℕ) (on : ℕ → Bool) (E : ℕ) (A : ℕ → ℕ → Fraction) (x : ℕ → ℕ → Float)
@@ -78,12 +99,11 @@ pub record SystemColumns (n : ℕ) (S : Equations) (c : ℕ → ℕ) (Z : ℕ �
   pub positive : (j : ℕ) → j < n → 0 < Z j
   pub solves : (j : ℕ) → j < n → Solves 0 n (withRight S (λ i. delta i j (c i))) (Z j) (z j)
 
--- Theorem: the rule for a system that gets out.
-unfoldable pub SystemReduction : Type 0
-SystemReduction =
-    (n E : ℕ) (A : ℕ → ℕ → Fraction) (x : ℕ → ℕ → Float) (S : Equations) (c : ℕ → ℕ) (Z : ℕ → ℕ) (z : ℕ → ℕ → ℕ)
+-- Theorem: the one inverse of a system that gets out.
+unfoldable pub SystemInverse : Type 0
+SystemInverse =
+    (n : ℕ) (A : ℕ → ℕ → Fraction) (S : Equations) (c : ℕ → ℕ) (Z : ℕ → ℕ) (z : ℕ → ℕ → ℕ)
     → RowForm n A (λ i. diag 0 n (S i)) (λ i. S i .size) c
     → AllOut 0 n S
     → SystemColumns n S c Z z
-    → NearTable n everyStage E x Z z
-    → Accurate n everyStage E A x
+    → OnlyInverse n everyStage A (λ i j. fraction (z j i) (Z j))

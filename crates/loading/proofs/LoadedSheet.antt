@@ -9,13 +9,14 @@ use Rattle.definitions.specs.Numbers.{0·0}
 use Rattle.definitions.specs.Sheet.{size, diagonal, system}
 use Rattle.steps.proofs.Sizes.{size-below, size-right, diagonal-below}
 use Rattle.steps.proofs.Same.{Same}
+use Rattle.tables.specs.RowMajor.{table, Holds}
 use Rattle.tables.specs.Operators.{replace, between}
 use Rattle.tables.proofs.Operators.{replace-same, replace-other, between-in, between-past}
 use Rattle.passes.specs.Multipliers.{systemIn}
 use Rattle.loading.specs.LoadedTable.{withSizes, withRates}
 
 module _ (n : ℕ) (sheet : List Float) where
-  pub sizes-alone : withSizes n sheet (λ _ _. 0·0) ≡ size n sheet
+  sizes-alone : withSizes n sheet (λ _ _. 0·0) ≡ size n sheet
   unfolding withSizes
   sizes-alone =
       let zeros : ℕ → ℕ → Float = λ _ _. 0·0 in
@@ -30,6 +31,14 @@ module _ (n : ℕ) (sheet : List Float) where
       fun-ext (λ i. by-order n i
       (λ l. between-past 0 n (diagonal n sheet) (λ _. 0·0) i l ∙ sym (diagonal-below n sheet i l))
       (λ l. between-in 0 n (diagonal n sheet) (λ _. 0·0) i zero-le l))
+
+  -- The sizes in a table of zeros f, and then the leaving rates.
+  module _ {f : ℕ → ℕ → Float} (zeros : f ≡ (λ _ _. 0·0)) {sizes : List Float} (loaded : Holds sizes (withSizes n sheet f)) where
+    pub sizes-are : table sizes ≡ size n sheet
+    sizes-are = loaded .is ∙ rw zeros sizes-alone
+
+    pub rates-are : {t : List Float} → Holds t (withRates n sheet (table sizes)) → table t ≡ withRates n sheet (size n sheet)
+    rates-are h = h .is ∙ rw sizes-are
 
   rated-row : (i : ℕ) → i < n → withRates n sheet (size n sheet) i ≡ replace i (diagonal n sheet i) (size n sheet i)
   unfolding withRates

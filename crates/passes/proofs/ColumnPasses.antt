@@ -15,7 +15,7 @@ use Rattle.rounding.specs.Good.{Good}
 use Rattle.rounding.proofs.Laws.{one-is-good, zero-is-good}
 use Rattle.rounding.proofs.AnyNumbers.{zero-other}
 use Rattle.steps.proofs.All.{each, every, all-same, exchange, all-both}
-use Rattle.steps.proofs.LeavingRatesSteps.{column-start, column-before, column-step, upward-start, upward-step}
+use Rattle.steps.proofs.LeavingRatesSteps.{column-start, column-before, column-waits, column-step, upward-start, upward-step}
 use Rattle.tables.specs.Operators.{between}
 use Rattle.tables.specs.Rows.{over, overInRange}
 use Rattle.tables.proofs.Operators.{between-in}
@@ -58,10 +58,6 @@ module _ (r : ℕ) (at : ℕ → System) (g : ℕ → ℕ → Float) (h : Multip
   Column q c = c < r
 
   module _ (below-finite : FiniteBelow r g) where
-    still-identity : (c q i : ℕ) → q ≤ c → b↓ r at c q i ≡ cond (eqb i c) 1·0 0·0
-    still-identity c zero i l = column-start r at c i
-    still-identity c (suc q) i l = ap (λ b. b i) (column-before r at c q (lt-leb c q l)) ∙ still-identity c q i (omega arith)
-
     downward : Adds r (turn r false) g Column (λ q i c. b↓ r at c q i)
     unfolding turn Column
     downward =
@@ -70,7 +66,7 @@ module _ (r : ℕ) (at : ℕ → System) (g : ℕ → ℕ → Float) (h : Multip
           step = λ q s c l m o. by-order c q
               (λ n. ap (λ x. b↓ r at c q s ⊕ x ⊗ b↓ r at c q q) (h .below q s l m) ∙ sym (column-step r at c q s (le-leb c q n) m))
               (λ n.
-              nothing-added s q c (g s q) (still-identity c q s (omega arith)) (still-identity c q q (omega arith)) (λ e. omega arith) (below-finite q s l m)
+              nothing-added s q c (g s q) (column-waits r at c q s (omega arith)) (column-waits r at c q q (omega arith)) (λ e. omega arith) (below-finite q s l m)
               ∙ sym (ap (λ b. b s) (column-before r at c q (lt-leb c q n))));
         }
 

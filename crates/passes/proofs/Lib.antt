@@ -8,6 +8,5 @@ pub mod SharedSteps
 pub mod FiniteStages
 pub mod RowPass
 pub mod ColumnPasses
--- Laws for other engines on the same steps: one column alone, and sizes that are zero.
-pub mod OneColumn
+-- Laws for other engines on the same steps: sizes that are zero.
 pub mod ZeroMultiplier

@@ -18,6 +18,7 @@ use Rattle.definitions.specs.Numbers.{0·0, finite, isZero, units}
 use Rattle.definitions.specs.Sheet.{place, size, diagonal, system}
 use Rattle.definitions.specs.Accuracy.{Binary64}
 use Rattle.definitions.specs.Questions.{Asked, pass, _then_, question1, question2, question3, question4, question5, question6, rightSign, question7, question8, moves, leaves, getsOut, question9, numberQuestions, tableInput, entryInput}
+use Rattle.definitions.specs.Column.{columnShape, columnInput}
 use Rattle.rounding.specs.Good.{Good}
 use Rattle.rounding.proofs.Laws.{zero-is-good, units-zero, is-zero}
 use Rattle.rounding.proofs.Order.{lt-units}
@@ -44,6 +45,11 @@ pub entry-numbers :
 unfolding entryInput
 entry-numbers reading n sheet i j =
     after-four (question1 reading) (question2 n) (question3 n (length sheet)) (question5 n i j) (numberQuestions reading n sheet)
+
+pub column-numbers :
+    (reading n : ℕ) (sheet : List Float) (room stage : ℕ) → columnInput reading n sheet room stage ≡ pass → numberQuestions 1 n sheet ≡ pass
+unfolding columnInput
+column-numbers reading n sheet room stage = then-next (columnShape reading n (length sheet) room stage) (numberQuestions 1 n sheet)
 
 less-or-equal : (x y : Float) → T (lt x y) → T (le x y)
 unfolding le

@@ -16,19 +16,15 @@ use Rattle.passes.specs.Multipliers.{systemIn}
 use Rattle.elimination.specs.Quotients.{QuotientTable}
 use Rattle.margins.specs.MarginsTable.{MarginsTable}
 use Rattle.loading.specs.LoadedTable.{withSizes, withRates}
-use Rattle.loading.proofs.LoadedSheet.{sizes-alone, margins-alone, loaded-system}
+use Rattle.loading.proofs.LoadedSheet.{sizes-are, rates-are, margins-alone, loaded-system}
 use Rattle.readings.specs.Stepped.{Stepped}
 
 module _ (n : ℕ) (sheet : List Float) {f : ℕ → ℕ → Float} (zeros : f ≡ (λ _ _. 0·0)) {sizes : List Float} (loaded : Holds sizes (withSizes n sheet f)) where
-  sizes-are : table sizes ≡ size n sheet
-  sizes-are = loaded .is ∙ rw zeros (sizes-alone n sheet)
-
   -- Reading 1.
   pub first-stepped : {t xs : List Float} {ok : Bool} → Holds t (withRates n sheet (table sizes)) → QuotientTable n (table t) ok xs → Stepped 1 n sheet ok xs
   unfolding entry everyStepInRange
   first-stepped {t} h s =
-      let held : table t ≡ withRates n sheet (size n sheet) = h .is ∙ rw sizes-are in
-      let q = rw held at s in
+      let q = rw (rates-are n sheet zeros loaded h) at s in
       let same = loaded-system n sheet in
       record {
         range = q .range ∙ same-in-range n (systemIn (withRates n sheet (size n sheet))) (system n sheet) same;
@@ -41,7 +37,7 @@ module _ (n : ℕ) (sheet : List Float) {f : ℕ → ℕ → Float} (zeros : f �
   unfolding entry everyStepInRange
   second-stepped {v} {d} z h s =
       let margins : vector d ≡ diagonal n sheet = h .is ∙ rw z (margins-alone n sheet) in
-      let m = rw (sizes-are, margins) at s in
+      let m = rw (sizes-are n sheet zeros loaded, margins) at s in
       record { range = m .range; entries = m .entries; long = m .long }
 
 -- A reading that is not 1 counts as 2.

@@ -1,6 +1,6 @@
 -- Questions 1, 2 and 3 with those after them, and what is known of a call once they passed.
-use mathlib.Core.Path.{_≡_, sym, ap, _∙_}
-use mathlib.Core.Bool.{true, false, not, _&&_, _||_}
+use mathlib.Core.Path.{_≡_, refl, sym, ap, _∙_}
+use mathlib.Core.Bool.{Bool, true, false, not, _&&_, _||_}
 use borrow.Author.Tests.{not-false, eq-eqb, ne-eqb, leb-true, lt-leb, le-leb}
 use native.Mathlib.Omega.{arith}
 use mathlib.Core.List.{List}
@@ -12,9 +12,10 @@ use lib.Ieee.Fits.{and-l, and-r}
 use Rattle.definitions.specs.Questions.{Asked, pass, _then_, question1, question2, question3, question4, question5, numberQuestions, tableInput, entryInput}
 use Rattle.definitions.specs.File.{fileLength}
 use Rattle.definitions.specs.Saving.{saveQuestions}
+use Rattle.definitions.specs.Column.{columnReading, columnShape, columnInput}
 use Rattle.steps.proofs.QuestionLaws.{then-first, then-next, then-assoc, ask-yes}
 use Rattle.answers.specs.Outcome.{ComesTo}
-use Rattle.answers.proofs.Outcome.{all-pass, no, asked-no, asked-yes}
+use Rattle.answers.proofs.Outcome.{all-pass, no, asked-no, asked-yes, in-other-words}
 use Rattle.exact.proofs.Bools.{and-second}
 use Rattle.shape.specs.Square.{Square}
 
@@ -118,7 +119,54 @@ save-passed reading n held room e =
     let p = lengths-passed reading n held (question4 (fileLength n) room) e in
     (p .0, p .1, room-held (fileLength n) room (p .2))
 
+-- One column asks the first three of reading 1.
+same-again : (b : Bool) → (b && b) ≡ b
+same-again true = refl
+same-again false = refl
+
+module _ (n held room stage : ℕ) where
+  column-shape : columnShape 1 n held room stage ≡ shapeThen 1 n held (question4 n room then question5 n stage stage)
+  unfolding columnShape columnReading question1
+  column-shape = refl
+
+  -- What it asks of reading 1, after the first three.
+  pub column-next : {reading number row column : ℕ} → reading ≡ 1
+      → ComesTo ((question1 1 then question2 n then question3 n held) then question4 n room then question5 n stage stage) number row column
+      → ComesTo (columnShape reading n held room stage) number row column
+  column-next one q = rw one (in-other-words (sym column-shape) (shape-next 1 n held (question4 n room then question5 n stage stage) q))
+
+  pub column-bad-reading : {reading : ℕ} → (reading ≡ 1 → ⊥) → ComesTo (columnShape reading n held room stage) 1 0 0
+  unfolding columnShape columnReading
+  column-bad-reading {reading} h = no (λ z. omega arith) (rw (ne-eqb reading 1 h))
+
+module _ (n stage : ℕ) where
+  pub bad-stage : not (leb 1 stage && leb stage n) ≡ true → ComesTo (question5 n stage stage) 5 0 0
+  bad-stage e = bad-entry n stage stage (rw (same-again (leb 1 stage && leb stage n)) e)
+
+  pub good-stage : not (leb 1 stage && leb stage n) ≡ false → ComesTo (question5 n stage stage) 0 0 0
+  good-stage e = good-entry n stage stage (rw (same-again (leb 1 stage && leb stage n)) e)
+
+-- What is known of a column's call once its questions passed.
+column-shape-passed : (reading n held room stage : ℕ) → columnShape reading n held room stage ≡ pass
+    → (reading ≡ 1) × (n ≤ 32) × (held ≡ n * n) × (n ≤ room) × ((1 ≤ stage) × (stage ≤ n))
+unfolding columnShape columnReading question5
+column-shape-passed reading n held room stage e =
+    let one = eqb→eq reading 1 (ask-yes (eqb reading 1) 1 0 0 (then-first (columnReading reading) (question2 n then question3 n held then question4 n room then question5 n stage stage) e)) in
+    let p = lengths-passed 1 n held (question4 n room then question5 n stage stage) (sym (column-shape n held room stage) ∙ (rw one at e)) in
+    let t = ask-yes (leb 1 stage && leb stage n && (leb 1 stage && leb stage n)) 5 0 0 (then-next (question4 n room) (question5 n stage stage) (p .2)) in
+    (one, p .0, p .1, room-held n room (then-first (question4 n room) (question5 n stage stage) (p .2)), is-stage stage n (and-l (leb 1 stage && leb stage n) (leb 1 stage && leb stage n) t))
+
 module _ (reading n : ℕ) (sheet : List Float) where
+  pub column-square : (room stage : ℕ) → columnShape reading n (length sheet) room stage ≡ pass → Square n sheet
+  column-square room stage e = let p = column-shape-passed reading n (length sheet) room stage e in record { few = p .1; held = p .2 }
+
+  pub column-input-passed : (room stage : ℕ) → columnInput reading n sheet room stage ≡ pass → Square n sheet × (n ≤ room) × ((1 ≤ stage) × (stage ≤ n))
+  unfolding columnInput
+  column-input-passed room stage e =
+      let q = then-first (columnShape reading n (length sheet) room stage) (numberQuestions 1 n sheet) e in
+      let p = column-shape-passed reading n (length sheet) room stage q in
+      (column-square room stage q, p .3, p .4)
+
   pub shape-passed : (rest : Asked) → shapeThen reading n (length sheet) rest ≡ pass → Square n sheet × (rest ≡ pass)
   shape-passed rest e =
       let p = lengths-passed reading n (length sheet) rest e in

@@ -1,11 +1,13 @@
 // Questions 1 to 5 of document 01: the reading, the number of stages, the lengths of the lent areas and the
-// stages asked for, and those of saving (document 02, U1). Each answers 0, or the number of the first question that is answered no; their refusals
-// have no row and no column. And the number at a place of a sheet of that shape.
+// stages asked for, and those of saving and of one column (document 02, U1 and U2). Each answers 0, or the
+// number of the first question that is answered no; their refusals have no row and no column. And the number
+// at a place of a sheet of that shape.
 ghost use Prim.Native.Nat.{_*_, _<_};
 ghost use mathlib.Core.Path.{_≡_};
 ghost use Rattle.definitions.specs.Sheet.{place};
 ghost use Rattle.definitions.specs.Questions.{_then_, question1, question2, question3, question4, question5};
 ghost use Rattle.definitions.specs.Saving.{saveQuestions};
+ghost use Rattle.definitions.specs.Column.{columnShape};
 ghost use Rattle.answers.specs.Outcome.{ComesTo};
 ghost use Rattle.shape.specs.Square.{Square};
 
@@ -62,6 +64,27 @@ pub fn ask_entry(reading: usize, n: usize, held: usize, i: usize, j: usize) -> u
         return shape;
     }
     if !((1 <= i) & (i <= n) & ((1 <= j) & (j <= n))) {
+        return 5;
+    }
+    0
+}
+
+// Questions 1 to 5 of one column, of reading 1 alone: `room` is the length of the answer area, which takes n
+// numbers, and the stage is counted from 1.
+pub fn ask_column(reading: usize, n: usize, held: usize, room: usize, stage: usize) -> usize
+    ensures { λ r. ⌜ ComesTo (columnShape reading n held room stage) r 0 0 ⌝ }
+{
+    if reading != 1 {
+        return 1;
+    }
+    let shape = ask_shape(1, n, held);
+    if shape != 0 {
+        return shape;
+    }
+    if room < n {
+        return 4;
+    }
+    if !((1 <= stage) & (stage <= n)) {
         return 5;
     }
     0

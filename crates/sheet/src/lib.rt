@@ -1,6 +1,7 @@
-// Questions 1 to 9 of document 01, in its order, for the whole table and for one entry. The two
+// Questions 1 to 9 of document 01, in its order, for the whole table, one column and one entry. The three
 // public calls have no `requires`: each question is asked only where the ones before it passed.
 ghost use Rattle.definitions.specs.Questions.{numberQuestions, tableInput, entryInput};
+ghost use Rattle.definitions.specs.Column.{columnInput};
 ghost use Rattle.answers.specs.Outcome.{ComesTo};
 ghost use Rattle.shape.specs.Square.{Square};
 ghost use Rattle.places.specs.PlaceQuestions.{placeQuestions};
@@ -56,6 +57,21 @@ pub fn table_input(reading: usize, n: usize, sheet: &[f64], room: usize) -> Aske
         };
     }
     ask_numbers(reading, n, sheet)
+}
+
+// The same for the column of a stage, counted from 1; `room` is the length of its answer area.
+pub fn column_input(reading: usize, n: usize, sheet: &[f64], room: usize, stage: usize) -> Asked
+    ensures { λ r. ⌜ ComesTo (columnInput reading n (now (sheet .entry)) room stage) (r .number) (r .row) (r .column) ⌝ }
+{
+    let shape = shape::ask_column(reading, n, sheet.len(), room, stage);
+    if shape != 0 {
+        return Asked {
+            number: shape,
+            row: 0,
+            column: 0,
+        };
+    }
+    ask_numbers(1, n, sheet)
 }
 
 // The same for the entry at row i and column j, counted from 1.

@@ -1,9 +1,10 @@
 -- The equations of the steps for leaving rates, one line each. `at` is `downward r start`.
-use Prim.Native.Nat.{ℕ, suc, _-_, _<_}
+use Prim.Native.Nat.{ℕ, zero, suc, _-_, _≤_, _<_}
 use mathlib.Core.Bool.{true, false, cond}
 use mathlib.Core.Path.{_≡_, refl, sym, ap, _∙_}
 use native.Mathlib.Omega.{arith}
 use lib.Dec.{leb, eqb}
+use borrow.Author.Tests.{lt-leb}
 use Rattle.definitions.specs.Numbers.{_⊕_, _⊗_, _⊘_, 0·0, 1·0, sum}
 use Rattle.definitions.specs.LeavingRates.{System, pivot, multiplier, eliminate, begun, downward, p, u, m↓, m↑, b↓, b↑, solved, quotient}
 use Rattle.steps.proofs.TableLaws.{stored-at, storedTable-at}
@@ -54,6 +55,11 @@ module _ (r : ℕ) (at : ℕ → System) where
   pub column-before : (j k : ℕ) → leb j k ≡ false → b↓ r at j (suc k) ≡ b↓ r at j k
   unfolding b↓
   column-before j k e = rw (e, b↓)
+
+  -- Until stage j begins, it is the identity's.
+  pub column-waits : (j k i : ℕ) → k ≤ j → b↓ r at j k i ≡ cond (eqb i j) 1·0 0·0
+  column-waits j zero i l = column-start j i
+  column-waits j (suc k) i l = ap (λ b. b i) (column-before j k (lt-leb j k l)) ∙ column-waits j k i (omega arith)
 
   pub column-step : (j k i : ℕ) → leb j k ≡ true → i < r → b↓ r at j (suc k) i ≡ b↓ r at j k i ⊕ m↓ r at k i ⊗ b↓ r at j k k
   unfolding b↓

@@ -12,3 +12,4 @@ pub mod QuestionLaws
 pub mod Searches
 pub mod Trapped
 pub mod Filling
+mod ColumnOfTable

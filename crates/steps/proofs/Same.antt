@@ -178,5 +178,9 @@ module _ (r : ℕ) (a b : System) (h : Same r 0 a b) where
   pub same-quotient : (i j : ℕ) → i < r → quotient r (downward r a) i j ≡ quotient r (downward r b) i j
   same-quotient = quotient-same r (downward r a) (downward r b) (downward-same r a b h)
 
+  pub same-column-range : (j : ℕ) → (shared r (downward r a) && column r (downward r a) j) ≡ (shared r (downward r b) && column r (downward r b) j)
+  same-column-range j =
+      ap₂ (λ x y. x && y) (shared-same r (downward r a) (downward r b) (downward-same r a b h)) (column-same r (downward r a) (downward r b) (downward-same r a b h) j)
+
   pub same-in-range : inRange r (downward r a) ≡ inRange r (downward r b)
   same-in-range = in-range-same r (downward r a) (downward r b) (downward-same r a b h)

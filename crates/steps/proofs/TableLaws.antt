@@ -53,7 +53,7 @@ module _ {A : Type 0} where
   rows-at f other n (suc m) i j h k = rows-more f other n m i j h k (λ l. rows-at f other n m i j l k) (decLt i m)
 
   -- Equal entries make equal rows.
-  list-same : (f g : ℕ → A) (n : ℕ) → ((j : ℕ) → j < n → f j ≡ g j) → list f n ≡ list g n
+  pub list-same : (f g : ℕ → A) (n : ℕ) → ((j : ℕ) → j < n → f j ≡ g j) → list f n ≡ list g n
   unfolding list
   list-same f g zero e = refl
   list-same f g (suc n) e = ap₂ (λ xs x. xs ++ (x ∷ [])) (list-same f g n (λ j l. e j (omega arith))) (e n (omega arith))
@@ -78,3 +78,7 @@ pub place-of-rows : (f : ℕ → ℕ → Float) (n : ℕ) (rest : List Float) (i
 place-of-rows f n rest i j hi hj =
     let inside : i * n + j < length (rows f n n) = omega (arith, length-rows f n n, suc-mul i n, mul-le-mul-right n hi) in
     List·getD-append (rows f n n) rest nan (i * n + j) inside ∙ rows-at f nan n n i j hi hj
+
+-- And one that starts with a column has each of its numbers.
+pub place-of-list : (f : ℕ → Float) (n : ℕ) (rest : List Float) (i : ℕ) → i < n → getD (list f n ++ rest) i nan ≡ f i
+place-of-list f n rest i l = List·getD-append (list f n) rest nan i (rw length-list l) ∙ list-at f nan n i l

@@ -1,1 +1,2 @@
 pub mod Trapped
+pub mod ColumnOfTable

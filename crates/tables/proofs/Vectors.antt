@@ -44,6 +44,9 @@ zero-vector m {x} e =
     (λ l. List·getD-eq-default (replicate m 0·0) 0·0 (rw (length-replicate m 0·0) l))
     (λ h. getD-replicate m i 0·0 0·0 h)))
 
+pub new-vector : {limit : ℕ} {x : Float} → x ≡ 0·0 → VectorIn limit (replicate limit x) (λ _. 0·0)
+new-vector {limit} {x} e = record { long = length-replicate limit x; is = zero-vector limit e }
+
 pub zero-table : (limit width m : ℕ) {x : Float} → x ≡ 0·0 → tableOf limit width (replicate m x) ≡ (λ _ _. 0·0)
 unfolding tableOf vector
 zero-table limit width m {x} e =

@@ -20,3 +20,7 @@ IsVector xs = length xs ≡ 32
 
 abbrev pub VectorHolds : List Float → (ℕ → Float) → Type 0
 VectorHolds xs f = VectorIn 32 xs f
+
+-- A working vector of zeros.
+abbrev pub ZeroVector : List Float → Type 0
+ZeroVector xs = VectorHolds xs (λ _. 0·0)

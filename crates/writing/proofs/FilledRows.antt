@@ -1,7 +1,7 @@
 -- A list that is filled from its start, place by place and row by row: the invariants of the two loops, and what a turn does to each.
 use mathlib.Core.Path.{_≡_, refl, sym, ap, _∙_}
 use Prim.Native.Nat.{ℕ, suc, _+_, _*_, _-_, _≤_, _<_}
-use native.Mathlib.Nat.{zero-mul, suc-mul, mul-le-mul-right}
+use native.Mathlib.Nat.{le-antisymm, zero-mul, suc-mul, mul-le-mul-right}
 use native.Mathlib.Numerals.{add-one}
 use native.Mathlib.Omega.{arith}
 use mathlib.Core.List.{List, [], _∷_, _++_, append-assoc, append-nil}
@@ -52,6 +52,9 @@ module _ {A : Type 0} where
     filled-ends l =
         let e : j ≡ length xs = omega (arith, h .long, h .inside) in
         h .is ∙ ap (λ k. list f k ++ drop k xs) e ∙ ap (λ rest. list f (length xs) ++ rest) (drop-length xs) ∙ append-nil (list f (length xs))
+
+    pub filled-to : {n : ℕ} → j ≤ n → n ≤ j → ys ≡ list f n ++ drop n xs
+    filled-to l m = rw (le-antisymm l m) at (h .is)
 
   pub rows-begin : {f : ℕ → ℕ → A} {n : ℕ} {xs : List A} → FilledRows f n xs xs 0
   unfolding rows

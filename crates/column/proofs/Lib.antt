@@ -1,0 +1,3 @@
+mod ColumnStages
+mod ColumnRange
+mod ColumnSolved

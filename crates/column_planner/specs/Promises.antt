@@ -1,0 +1,31 @@
+-- What the column's service promises of every call, refused calls too.
+use mathlib.Core.Path.{_≡_}
+use Prim.Native.Nat.{ℕ, _-_, _<_}
+use mathlib.Core.Bool.{Bool}
+use mathlib.Core.List.{List}
+use lib.Dec.{T}
+use lib.ListN.{length, getD}
+use lib.Ieee.{Float, nan}
+use Rattle.definitions.specs.Sheet.{allowance}
+use Rattle.definitions.specs.Table.{entry}
+use Rattle.definitions.specs.Matrix.{matrix, everyStage}
+use Rattle.definitions.specs.Questions.{pass}
+use Rattle.definitions.specs.Accuracy.{AccurateColumn}
+use Rattle.definitions.specs.Column.{columnInRange, columnQuestions, columnAnswer, columnArea}
+use Rattle.tables.specs.Vectors.{IsVector, vector}
+use Rattle.answers.specs.declared.Column.{Column}
+use Rattle.answers.specs.Answers.{columnGiven}
+
+-- The answer r, each place of the answer area before and after, and for an accepted call demand 3 of the numbers in the area,
+-- whether or not the whole table is accepted.
+pub record ColumnDone (reading n : ℕ) (sheet : List Float) (stage : ℕ) (before after : List Float) (r : Column) : Type 0 where
+  pub answered : columnGiven r ≡ columnAnswer reading n sheet (length before) stage
+  pub area : after ≡ columnArea reading n sheet stage before
+  pub accurate : columnQuestions reading n sheet (length before) stage ≡ pass
+      → AccurateColumn n everyStage (allowance 1 n) (matrix 1 n sheet) (stage - 1) (λ i. getD after i nan)
+
+-- The steps: whether they are in range; where they are, the n numbers of column j.
+pub record ColumnStepped (n : ℕ) (sheet : List Float) (j : ℕ) (ok : Bool) (xs : List Float) : Type 0 where
+  pub range : ok ≡ columnInRange n sheet j
+  pub entries : T ok → (i : ℕ) → i < n → vector xs i ≡ entry 1 n sheet i j
+  pub long : IsVector xs

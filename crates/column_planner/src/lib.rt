@@ -1,0 +1,69 @@
+// The service for one column (document 02, U2): the seconds at one stage, from every entry, for sheets of reading
+// 1. It has no `requires`: its questions are asked in order, and a no ends the call with no place changed.
+ghost use Prim.Native.Nat.{_<_};
+ghost use mathlib.Core.Path.{_≡_};
+ghost use lib.ListN.{length};
+ghost use Rattle.definitions.specs.Questions.{pass};
+ghost use Rattle.definitions.specs.Column.{columnInput};
+ghost use Rattle.tables.specs.Vectors.{ZeroVector};
+ghost use Rattle.shape.specs.Square.{Square};
+ghost use Rattle.column_planner.specs.Promises.{ColumnStepped, ColumnDone};
+use answers::Column;
+
+// Column j of a sheet's table, in b; true if its steps are in range. b holds zeros before; afterwards it is left
+// open where a step is not in range.
+fn steps(n: usize, j: usize, sheet: &[f64], b: &mut [f64; 32]) -> bool
+    requires { ⌜ Square n (now sheet) × (j < n) × ZeroVector (now b) ⌝ }
+    ensures { λ ok. ⌜ ColumnStepped n (now (sheet .entry)) j ok (now (b .exit)) ⌝ }
+{
+    let mut t = [0.0; 1024];
+    loading::sizes(n, sheet, &mut t);
+    loading::rates(n, sheet, &mut t);
+    column::solve(n, j, &mut t, b)
+}
+
+// The column of a sheet that passed questions 1 to 9. Nothing is written before question 10 passes too.
+fn column_of_sheet(
+    reading: usize,
+    n: usize,
+    sheet: &[f64],
+    stage: usize,
+    answer: &mut [f64],
+) -> Column
+    requires { ⌜ columnInput reading n (now sheet) (length (now answer)) stage ≡ pass ⌝ }
+    ensures { λ r. ⌜ ColumnDone reading n (now (sheet .entry)) stage (now (answer .entry)) (now (answer .exit)) r ⌝ }
+{
+    let mut b = [0.0; 32];
+    if steps(n, stage - 1, sheet, &mut b) {
+        writing::write_column(n, &b, answer);
+        return Column::Allowed {
+            allowance: allowance::allowance_of(1, n),
+        };
+    }
+    Column::Refused {
+        number: 10,
+        row: 0,
+        column: 0,
+    }
+}
+
+// The column of a stage, counted from 1, in the first n places of the answer area.
+pub fn one_column(
+    reading: usize,
+    n: usize,
+    sheet: &[f64],
+    stage: usize,
+    answer: &mut [f64],
+) -> Column
+    ensures { λ r. ⌜ ColumnDone reading n (now (sheet .entry)) stage (now (answer .entry)) (now (answer .exit)) r ⌝ }
+{
+    let asked = sheet::column_input(reading, n, sheet, answer.len(), stage);
+    if asked.number != 0 {
+        return Column::Refused {
+            number: asked.number,
+            row: asked.row,
+            column: asked.column,
+        };
+    }
+    column_of_sheet(reading, n, sheet, stage, answer)
+}

@@ -1,0 +1,45 @@
+-- Only the signer's column (document 02, U2): seconds at one stage, counted from 1, from every entry; for reading 1 alone.
+use Prim.Native.Nat.{ℕ, _-_}
+use mathlib.Core.Bool.{Bool, _&&_}
+use mathlib.Core.List.{List}
+use lib.Dec.{eqb}
+use lib.ListN.{length}
+use lib.Ieee.{Float}
+use Rattle.definitions.specs.Sheet.{system, allowance}
+use Rattle.definitions.specs.Tables.{list}
+use Rattle.definitions.specs.LeavingRates.{downward, shared, column}
+use Rattle.definitions.specs.Table.{entry}
+use Rattle.definitions.specs.Questions.{Asked, ask, _then_, question2, question3, question4, question5, numberQuestions}
+use Rattle.definitions.specs.Services.{Answer, answer, filled}
+
+-- "Reading 2 gets 1."
+unfoldable pub columnReading : ℕ → Asked
+columnReading reading = ask (eqb reading 1) 1 0 0
+
+-- "Question 4 asks for n numbers; 5 concerns the one stage": `held` and `room` are the lengths of the sheet and of the answer area.
+unfoldable pub columnShape : ℕ → ℕ → ℕ → ℕ → ℕ → Asked
+columnShape reading n held room stage =
+    columnReading reading then question2 n then question3 n held then question4 n room then question5 n stage stage
+
+unfoldable pub columnInput : ℕ → ℕ → List Float → ℕ → ℕ → Asked
+columnInput reading n sheet room stage = columnShape reading n (length sheet) room stage then numberQuestions 1 n sheet
+
+-- "10 looks at this engine's own steps": those that serve every column, and those of column j of b.
+unfoldable pub columnInRange : ℕ → List Float → ℕ → Bool
+columnInRange n sheet j = let at = downward n (system n sheet) in shared n at && column n at j
+
+unfoldable pub columnQuestions : ℕ → ℕ → List Float → ℕ → ℕ → Asked
+columnQuestions reading n sheet room stage = columnInput reading n sheet room stage then ask (columnInRange n sheet (stage - 1)) 10 0 0
+
+-- The column, from the first entry to the last, and the allowance that is handed over with it.
+unfoldable pub stageColumn : ℕ → List Float → ℕ → List Float
+stageColumn n sheet stage = list (λ i. entry 1 n sheet i (stage - 1)) n
+
+unfoldable pub columnAnswer : ℕ → ℕ → List Float → ℕ → ℕ → Answer ℕ
+columnAnswer reading n sheet room stage = answer (columnQuestions reading n sheet room stage) (allowance 1 n)
+
+-- "Fills n numbers; later places keep theirs."
+unfoldable pub columnArea : ℕ → ℕ → List Float → ℕ → List Float → List Float
+columnArea reading n sheet stage area =
+    let new = stageColumn n sheet stage in
+    filled (columnQuestions reading n sheet (length area) stage) new area
