@@ -3,10 +3,8 @@ use Prim.Native.Nat.{ℕ}
 use lib.Ieee.{Float}
 use Rattle.definitions.specs.File.{Head}
 use Rattle.definitions.specs.Services.{Answer, given, refused}
-use Rattle.answers.specs.declared.Table.{Table}
-use Rattle.answers.specs.declared.Table.the-variants as table
-use Rattle.answers.specs.declared.Column.{Column}
-use Rattle.answers.specs.declared.Column.the-variants as column
+use Rattle.answers.specs.declared.Filled.{Filled}
+use Rattle.answers.specs.declared.Filled.the-variants as filled
 use Rattle.answers.specs.declared.Entry.{Entry}
 use Rattle.answers.specs.declared.Entry.the-variants as entry
 use Rattle.answers.specs.declared.Loaded.{Loaded}
@@ -14,13 +12,9 @@ use Rattle.answers.specs.declared.Loaded.the-variants as loaded
 use Rattle.answers.specs.declared.Saved.{Saved}
 use Rattle.answers.specs.declared.Saved.the-variants as saved
 
-abbrev pub tableGiven : Table → Answer ℕ
-tableGiven (table.Allowed allowance) = given allowance
-tableGiven (table.Refused number row column) = refused number row column
-
-abbrev pub columnGiven : Column → Answer ℕ
-columnGiven (column.Allowed allowance) = given allowance
-columnGiven (column.Refused number row column) = refused number row column
+abbrev pub filledGiven : Filled → Answer ℕ
+filledGiven (filled.Allowed allowance) = given allowance
+filledGiven (filled.Refused number row column) = refused number row column
 
 abbrev pub entryGiven : Entry → Answer Float
 entryGiven (entry.Seconds value) = given value

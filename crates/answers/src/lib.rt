@@ -9,20 +9,8 @@ pub struct Asked {
     pub column: usize,
 }
 
-// The whole table: its allowance.
-pub enum Table {
-    Allowed {
-        allowance: usize,
-    },
-    Refused {
-        number: usize,
-        row: usize,
-        column: usize,
-    },
-}
-
-// One column: the allowance of its numbers.
-pub enum Column {
+// The whole table or one column: the allowance of the numbers that fill the area.
+pub enum Filled {
     Allowed {
         allowance: usize,
     },

@@ -117,6 +117,15 @@ fn words(case: &[u8], from: usize, sheet: &mut [u64]) -> usize
     given
 }
 
+// What a table or a column answers, and every number of its area.
+fn write_filled(number: usize, row: usize, column: usize, allowance: usize, area: &[f64]) {
+    write_refusal(number, row, column);
+    if number == 0 {
+        write_count(allowance);
+    }
+    write_numbers(area);
+}
+
 // t: reading, n, the length of the answer area, and the sheet's numbers.
 fn try_table(reading: usize, n: usize, sheet: &[f64], area: &mut [f64]) {
     let mut allowance = 0;
@@ -131,11 +140,7 @@ fn try_table(reading: usize, n: usize, sheet: &[f64], area: &mut [f64]) {
         &mut row,
         &mut column,
     );
-    write_refusal(number, row, column);
-    if number == 0 {
-        write_count(allowance);
-    }
-    write_numbers(area);
+    write_filled(number, row, column, allowance, area);
 }
 
 fn run_table(case: &[u8]) {
@@ -166,11 +171,7 @@ fn try_column(reading: usize, n: usize, sheet: &[f64], stage: usize, area: &mut 
         &mut row,
         &mut column,
     );
-    write_refusal(number, row, column);
-    if number == 0 {
-        write_count(allowance);
-    }
-    write_numbers(area);
+    write_filled(number, row, column, allowance, area);
 }
 
 fn run_column(case: &[u8]) {

@@ -16,28 +16,10 @@ use Rattle.steps.proofs.AddProduct.{step-same}
 use Rattle.steps.proofs.Gathering.{Gathered, gathered-begins, gathered-turns, gathered-ends, gathered-all}
 use Rattle.steps.proofs.LeavingRatesSteps.{column-waits, column-step, upward-start, upward-step, solved-is}
 use Rattle.tables.specs.Operators.{replace, between}
-use Rattle.tables.specs.Vectors.{vector, IsVector, VectorHolds}
-use Rattle.tables.proofs.Operators.{between-in, between-low, between-past, between-none, between-step}
+use Rattle.tables.specs.Vectors.{vector, IsVector}
+use Rattle.tables.proofs.Operators.{between-in, between-low, between-past}
 use Rattle.passes.specs.Multipliers.{Multipliers}
 use Rattle.column.specs.ColumnSteps.{largeProduct, StageGives, DownAt, UpAt, largeDown, largeUp, DownwardGives, UpwardGives}
-
--- ---- a loop over the rows of a vector from lo: those before i have become g
-pub record Rows (lo : ℕ) (g v : ℕ → Float) (xs : List Float) (i : ℕ) : Type 0 where
-  pub from : lo ≤ i
-  pub holds : VectorHolds xs (between lo i g v)
-
-pub rows-begin : {lo i : ℕ} {g : ℕ → Float} {xs : List Float} → i ≡ lo → IsVector xs → Rows lo g (vector xs) xs i
-rows-begin {lo} {i} {g} {xs} q e = rw q (record { from = le-refl lo; holds = record { long = e; is = sym (between-none lo lo g (vector xs) (le-refl lo)) } })
-
-module _ {lo : ℕ} {g v : ℕ → Float} {xs : List Float} {i : ℕ} (h : Rows lo g v xs i) where
-  pub row-due : vector xs i ≡ v i
-  row-due = ap (λ (w : ℕ → Float). w i) (h .holds .is) ∙ between-past lo i g v i (le-refl i)
-
-  pub rows-turn : {x : Float} {ys : List Float} → VectorHolds ys (replace i x (vector xs)) → x ≡ g i → Rows lo g v ys (i + 1)
-  rows-turn k e = record { from = omega (arith, h .from); holds = record { long = k .long; is = k .is ∙ rw (e, h .holds .is) (between-step lo i g v (h .from)) } }
-
-  pub rows-end : {hi : ℕ} → i ≤ hi → hi ≤ i → VectorHolds xs (between lo hi g v)
-  rows-end l m = rw (le-antisymm l m) at (h .holds)
 
 -- ---- document 01's column
 module _ (r : ℕ) (at : ℕ → System) (j : ℕ) where

@@ -26,7 +26,7 @@ use Rattle.loading.specs.LoadedTable.{withSizes, withRates}
 use Rattle.loading.proofs.LoadedSheet.{rates-are, loaded-system}
 use Rattle.accuracy.proofs.Rule.{accurate-column}
 use Rattle.rates_accuracy.proofs.Input.{column-numbers}
-use Rattle.answers.specs.declared.Column.the-variants as given-column
+use Rattle.answers.specs.declared.Filled.the-variants as given-column
 use Rattle.column_planner.specs.Promises.{ColumnStepped, ColumnDone}
 
 -- The steps on the table of a sheet.

@@ -13,13 +13,13 @@ use Rattle.definitions.specs.Questions.{pass}
 use Rattle.definitions.specs.Accuracy.{AccurateColumn}
 use Rattle.definitions.specs.Column.{columnInRange, columnQuestions, columnAnswer, columnArea}
 use Rattle.tables.specs.Vectors.{IsVector, vector}
-use Rattle.answers.specs.declared.Column.{Column}
-use Rattle.answers.specs.Answers.{columnGiven}
+use Rattle.answers.specs.declared.Filled.{Filled}
+use Rattle.answers.specs.Answers.{filledGiven}
 
 -- The answer r, each place of the answer area before and after, and for an accepted call demand 3 of the numbers in the area,
 -- whether or not the whole table is accepted.
-pub record ColumnDone (reading n : ℕ) (sheet : List Float) (stage : ℕ) (before after : List Float) (r : Column) : Type 0 where
-  pub answered : columnGiven r ≡ columnAnswer reading n sheet (length before) stage
+pub record ColumnDone (reading n : ℕ) (sheet : List Float) (stage : ℕ) (before after : List Float) (r : Filled) : Type 0 where
+  pub answered : filledGiven r ≡ columnAnswer reading n sheet (length before) stage
   pub area : after ≡ columnArea reading n sheet stage before
   pub accurate : columnQuestions reading n sheet (length before) stage ≡ pass
       → AccurateColumn n everyStage (allowance 1 n) (matrix 1 n sheet) (stage - 1) (λ i. getD after i nan)

@@ -8,7 +8,7 @@ ghost use Rattle.definitions.specs.Column.{columnInput};
 ghost use Rattle.tables.specs.Vectors.{ZeroVector};
 ghost use Rattle.shape.specs.Square.{Square};
 ghost use Rattle.column_planner.specs.Promises.{ColumnStepped, ColumnDone};
-use answers::Column;
+use answers::Filled;
 
 // Column j of a sheet's table, in b; true if its steps are in range. b holds zeros before; afterwards it is left
 // open where a step is not in range.
@@ -29,18 +29,18 @@ fn column_of_sheet(
     sheet: &[f64],
     stage: usize,
     answer: &mut [f64],
-) -> Column
+) -> Filled
     requires { ⌜ columnInput reading n (now sheet) (length (now answer)) stage ≡ pass ⌝ }
     ensures { λ r. ⌜ ColumnDone reading n (now (sheet .entry)) stage (now (answer .entry)) (now (answer .exit)) r ⌝ }
 {
     let mut b = [0.0; 32];
     if steps(n, stage - 1, sheet, &mut b) {
         writing::write_column(n, &b, answer);
-        return Column::Allowed {
+        return Filled::Allowed {
             allowance: allowance::allowance_of(1, n),
         };
     }
-    Column::Refused {
+    Filled::Refused {
         number: 10,
         row: 0,
         column: 0,
@@ -54,12 +54,12 @@ pub fn one_column(
     sheet: &[f64],
     stage: usize,
     answer: &mut [f64],
-) -> Column
+) -> Filled
     ensures { λ r. ⌜ ColumnDone reading n (now (sheet .entry)) stage (now (answer .entry)) (now (answer .exit)) r ⌝ }
 {
     let asked = sheet::column_input(reading, n, sheet, answer.len(), stage);
     if asked.number != 0 {
-        return Column::Refused {
+        return Filled::Refused {
             number: asked.number,
             row: asked.row,
             column: asked.column,

@@ -2,11 +2,11 @@
 use Prim.Native.Nat.{ℕ, _-_, _^_}
 use mathlib.Core.List.{List, [], _∷_, map}
 use mathlib.Core.Path.{_≡_}
+use lib.ListN.{length}
 use lib.Ieee.{Float, nan}
 use Rattle.definitions.specs.Services.{Answer, given, refused}
 use Rattle.definitions.specs.Column.{columnAnswer, columnArea}
 use Rattle.definitions.specs.Starred.{num, quo, minus}
-use lib.ListN.{length}
 
 -- A call: the sheet, the stage, the answer area before it; and what it answers, with the area after it.
 pub record Outcome : Type 0 where

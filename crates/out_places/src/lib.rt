@@ -1,57 +1,29 @@
 // What a service answers, in the out places of a caller in C, who has no enums: the number of the refusal is
 // returned, or 0, and `row` and `column` tell the rest of it, 0 and 0 where there is none. What the call hands
 // over goes to the other places, which a refused call leaves as they were.
-ghost use Rattle.answers.specs.Answers.{tableGiven, columnGiven, entryGiven, headGiven, savedGiven};
+ghost use Rattle.answers.specs.Answers.{filledGiven, entryGiven, headGiven, savedGiven};
 ghost use Rattle.out_places.specs.OutPlaces.{ValueHanded, HeadHanded};
-use answers::Column;
 use answers::Entry;
+use answers::Filled;
 use answers::Loaded;
 use answers::Saved;
-use answers::Table;
 
 pub fn hand_allowance(
-    told: Table,
+    told: Filled,
     allowance: &mut usize,
     row: &mut usize,
     column: &mut usize,
 ) -> usize
-    ensures { λ r. ⌜ ValueHanded (tableGiven told) (now (allowance .entry)) (now (allowance .exit)) (now (row .exit)) (now (column .exit)) r ⌝ }
+    ensures { λ r. ⌜ ValueHanded (filledGiven told) (now (allowance .entry)) (now (allowance .exit)) (now (row .exit)) (now (column .exit)) r ⌝ }
 {
     match told {
-        Table::Allowed { allowance: allowed } => {
+        Filled::Allowed { allowance: allowed } => {
             *allowance = allowed;
             *row = 0;
             *column = 0;
             0
         }
-        Table::Refused {
-            number,
-            row: i,
-            column: j,
-        } => {
-            *row = i;
-            *column = j;
-            number
-        }
-    }
-}
-
-pub fn hand_column(
-    told: Column,
-    allowance: &mut usize,
-    row: &mut usize,
-    column: &mut usize,
-) -> usize
-    ensures { λ r. ⌜ ValueHanded (columnGiven told) (now (allowance .entry)) (now (allowance .exit)) (now (row .exit)) (now (column .exit)) r ⌝ }
-{
-    match told {
-        Column::Allowed { allowance: given } => {
-            *allowance = given;
-            *row = 0;
-            *column = 0;
-            0
-        }
-        Column::Refused {
+        Filled::Refused {
             number,
             row: i,
             column: j,

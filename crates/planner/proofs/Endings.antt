@@ -20,7 +20,7 @@ use Rattle.shape.proofs.ShapeQuestions.{entry-input-passed}
 use Rattle.accuracy.proofs.Rule.{accurate-table}
 use Rattle.steps.proofs.QuestionLaws.{never-both, then-first}
 use Rattle.rates_accuracy.proofs.Input.{table-numbers, entry-numbers}
-use Rattle.answers.specs.declared.Table.the-variants as given-table
+use Rattle.answers.specs.declared.Filled.the-variants as given-table
 use Rattle.answers.specs.declared.Entry.the-variants as given-entry
 use Rattle.readings.specs.Stepped.{Stepped}
 use Rattle.planner.specs.Promises.{TableDone, EntryDone}

@@ -10,13 +10,13 @@ use Rattle.definitions.specs.Matrix.{matrix, everyStage}
 use Rattle.definitions.specs.Questions.{pass, tableQuestions, entryQuestions}
 use Rattle.definitions.specs.Accuracy.{Accurate}
 use Rattle.definitions.specs.Services.{tableAnswer, tableArea, entryAnswer}
-use Rattle.answers.specs.declared.Table.{Table}
+use Rattle.answers.specs.declared.Filled.{Filled}
 use Rattle.answers.specs.declared.Entry.{Entry}
-use Rattle.answers.specs.Answers.{tableGiven, entryGiven}
+use Rattle.answers.specs.Answers.{filledGiven, entryGiven}
 
 -- The whole table: the answer r, each place of the answer area before and after, and for an accepted sheet demand 3 of the numbers in the area.
-pub record TableDone (reading n : ℕ) (sheet before after : List Float) (r : Table) : Type 0 where
-  pub answered : tableGiven r ≡ tableAnswer reading n sheet (length before)
+pub record TableDone (reading n : ℕ) (sheet before after : List Float) (r : Filled) : Type 0 where
+  pub answered : filledGiven r ≡ tableAnswer reading n sheet (length before)
   pub area : after ≡ tableArea reading n sheet before
   pub accurate : tableQuestions reading n sheet (length before) ≡ pass
       → Accurate n everyStage (allowance reading n) (matrix reading n sheet) (place n after)

@@ -5,22 +5,22 @@ ghost use lib.ListN.{length};
 ghost use Rattle.definitions.specs.Questions.{pass, tableInput, entryInput};
 ghost use Rattle.planner.specs.Promises.{TableDone, EntryDone};
 use answers::Entry;
-use answers::Table;
+use answers::Filled;
 use tables::row;
 
 // The whole table of a sheet that passed questions 1 to 9. Nothing is written before question 10 passes too.
-fn table_of_sheet(reading: usize, n: usize, sheet: &[f64], answer: &mut [f64]) -> Table
+fn table_of_sheet(reading: usize, n: usize, sheet: &[f64], answer: &mut [f64]) -> Filled
     requires { ⌜ tableInput reading n (now sheet) (length (now answer)) ≡ pass ⌝ }
     ensures { λ r. ⌜ TableDone reading n (now (sheet .entry)) (now (answer .entry)) (now (answer .exit)) r ⌝ }
 {
     let mut x = [0.0; 1024];
     if readings::steps(reading, n, sheet, &mut x) {
         writing::write(n, &x, answer);
-        return Table::Allowed {
+        return Filled::Allowed {
             allowance: allowance::allowance_of(reading, n),
         };
     }
-    Table::Refused {
+    Filled::Refused {
         number: 10,
         row: 0,
         column: 0,
@@ -28,12 +28,12 @@ fn table_of_sheet(reading: usize, n: usize, sheet: &[f64], answer: &mut [f64]) -
 }
 
 // The whole table, row by row in the first n × n places of the answer area.
-pub fn whole_table(reading: usize, n: usize, sheet: &[f64], answer: &mut [f64]) -> Table
+pub fn whole_table(reading: usize, n: usize, sheet: &[f64], answer: &mut [f64]) -> Filled
     ensures { λ r. ⌜ TableDone reading n (now (sheet .entry)) (now (answer .entry)) (now (answer .exit)) r ⌝ }
 {
     let asked = sheet::table_input(reading, n, sheet, answer.len());
     if asked.number != 0 {
-        return Table::Refused {
+        return Filled::Refused {
             number: asked.number,
             row: asked.row,
             column: asked.column,

@@ -22,10 +22,10 @@ use Rattle.text.specs.AnswerText.{answerText}
 use Rattle.text.proofs.Answer.{text-of-answer}
 use Rattle.answers.specs.declared.Loaded.{Loaded}
 use Rattle.answers.specs.declared.Loaded.the-variants as file
-use Rattle.answers.specs.Answers.{tableGiven, headGiven}
+use Rattle.answers.specs.Answers.{filledGiven, headGiven}
 use Rattle.file.proofs.Reading.{sheet-file, to-fill}
 use Rattle.payload.proofs.FileWords.{file-numbers-length}
-use Rattle.answers.specs.declared.Table.{Table}
+use Rattle.answers.specs.declared.Filled.{Filled}
 use Rattle.planner.specs.Promises.{TableDone}
 use Rattle.report.specs.Reported.{Reported}
 
@@ -43,8 +43,8 @@ pub same-report : {s t before after : List ℕ} {count : ℕ} → s ≡ t → Re
 same-report e w = rw e at w
 
 -- The text for what the whole table's service answers, and for the area that it leaves.
-pub served-text : (reading n : ℕ) (sheet before after : List Float) → length before ≡ 1024 → {r : Table} → TableDone reading n sheet before after r
-    → answerText n after (tableGiven r) ≡ tableText reading n sheet (tableAnswer reading n sheet 1024)
+pub served-text : (reading n : ℕ) (sheet before after : List Float) → length before ≡ 1024 → {r : Filled} → TableDone reading n sheet before after r
+    → answerText n after (filledGiven r) ≡ tableText reading n sheet (tableAnswer reading n sheet 1024)
 served-text reading n sheet before after room done =
     rw (done .area, done .answered) (text-of-answer reading n sheet before _ refl ∙ rw room)
 

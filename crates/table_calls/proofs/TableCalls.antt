@@ -2,22 +2,21 @@
 use mathlib.Core.List.{List}
 use Prim.Native.Nat.{ℕ}
 use lib.Ieee.{Float}
-use Rattle.answers.specs.declared.Table.{Table}
-use Rattle.answers.specs.declared.Column.{Column}
+use Rattle.answers.specs.declared.Filled.{Filled}
 use Rattle.answers.specs.declared.Entry.{Entry}
-use Rattle.answers.specs.Answers.{tableGiven, columnGiven, entryGiven}
+use Rattle.answers.specs.Answers.{filledGiven, entryGiven}
 use Rattle.column_planner.specs.Promises.{ColumnDone}
 use Rattle.planner.specs.Promises.{TableDone, EntryDone}
 use Rattle.out_places.specs.OutPlaces.{ValueHanded}
 use Rattle.table_calls.specs.TableCalls.{TableCall, ColumnCall, EntryCall}
 
 module _ {row column number : ℕ} where
-  pub table-call : {reading n : ℕ} {sheet before after : List Float} {r : Table} {was is : ℕ} → TableDone reading n sheet before after r
-      → ValueHanded (tableGiven r) was is row column number → TableCall reading n sheet before after was is row column number
+  pub table-call : {reading n : ℕ} {sheet before after : List Float} {r : Filled} {was is : ℕ} → TableDone reading n sheet before after r
+      → ValueHanded (filledGiven r) was is row column number → TableCall reading n sheet before after was is row column number
   table-call done told = record { answer = rw (done .answered) at told; area = done .area; accurate = done .accurate }
 
-  pub column-call : {reading n : ℕ} {sheet : List Float} {stage : ℕ} {before after : List Float} {r : Column} {was is : ℕ} → ColumnDone reading n sheet stage before after r
-      → ValueHanded (columnGiven r) was is row column number → ColumnCall reading n sheet stage before after was is row column number
+  pub column-call : {reading n : ℕ} {sheet : List Float} {stage : ℕ} {before after : List Float} {r : Filled} {was is : ℕ} → ColumnDone reading n sheet stage before after r
+      → ValueHanded (filledGiven r) was is row column number → ColumnCall reading n sheet stage before after was is row column number
   column-call done told = record { answer = rw (done .answered) at told; area = done .area; accurate = done .accurate }
 
   pub entry-call : {reading n : ℕ} {sheet : List Float} {i j : ℕ} {r : Entry} {was is : Float} → EntryDone reading n sheet i j r

@@ -31,7 +31,7 @@ pub fn column(
     ensures { λ r. ⌜ ColumnCall reading n (now (sheet .entry)) stage (now (answer .entry)) (now (answer .exit)) (now (allowance .entry)) (now (allowance .exit)) (now (row .exit)) (now (column .exit)) r ⌝ }
 {
     let told = column_planner::one_column(reading, n, sheet, stage, answer);
-    out_places::hand_column(told, allowance, row, column)
+    out_places::hand_allowance(told, allowance, row, column)
 }
 
 // Entry (i, j), counted from 1: the seconds that a request entering at stage i spends at stage j.

@@ -1,6 +1,6 @@
 -- The places of a vector: one that is read, one that is written; vectors and tables of zeros.
 use mathlib.Core.Path.{_≡_, sym, ap, _∙_, fun-ext}
-use Prim.Native.Nat.{ℕ, _+_, _*_, _≤_, _<_, zero-le}
+use Prim.Native.Nat.{ℕ, _+_, _*_, _≤_, _<_}
 use native.Mathlib.Nat.{le-refl, le-antisymm}
 use native.Mathlib.Omega.{arith}
 use mathlib.Core.Bool.{_&&_}
@@ -13,7 +13,7 @@ use Rattle.definitions.specs.Numbers.{0·0}
 use Rattle.tables.specs.Operators.{replace, between}
 use Rattle.exact.proofs.Cases.{by-equal, by-order, by-bool}
 use Rattle.tables.proofs.RowMajor.{any-default}
-use Rattle.tables.proofs.Operators.{replace-same, replace-other, between-none, between-step}
+use Rattle.tables.proofs.Operators.{replace-same, replace-other, between-none, between-past, between-step}
 use Rattle.tables.specs.RowMajor.{tableOf, HoldsIn}
 use Rattle.tables.specs.Vectors.{vector, VectorIn}
 
@@ -58,13 +58,27 @@ zero-table limit width m {x} e =
 pub new-table : {limit width : ℕ} {x : Float} → x ≡ 0·0 → HoldsIn limit width (replicate (limit * width) x) (λ _ _. 0·0)
 new-table {limit} {width} {x} e = record { long = length-replicate (limit * width) x; is = zero-table limit width (limit * width) e }
 
--- Along a vector: the places before i become g.
-module _ {limit : ℕ} (g : ℕ → Float) where
-  pub vector-begins : {xs : List Float} → length xs ≡ limit → VectorIn limit xs (between 0 0 g (vector xs))
-  vector-begins {xs} e = record { long = e; is = sym (between-none 0 0 g (vector xs) (le-refl 0)) }
+-- Along a vector from lo: the places before i are done. They become g, and f was the vector at the start.
+pub record AlongVectorIn (limit lo : ℕ) (g f : ℕ → Float) (xs : List Float) (i : ℕ) : Type 0 where
+  pub from : lo ≤ i
+  pub holds : VectorIn limit xs (between lo i g f)
 
-  pub vector-turns : (f : ℕ → Float) (i : ℕ) {x : Float} {xs ys : List Float} → VectorIn limit xs (between 0 i g f) → VectorIn limit ys (replace i x (vector xs)) → x ≡ g i → VectorIn limit ys (between 0 (i + 1) g f)
-  vector-turns f i h k e = record { long = k .long; is = k .is ∙ rw (e, h .is) (between-step 0 i g f zero-le) }
+pub vector-begins : {limit lo i : ℕ} {g : ℕ → Float} {xs : List Float} → i ≡ lo → length xs ≡ limit → AlongVectorIn limit lo g (vector xs) xs i
+vector-begins {limit} {lo} {i} {g} {xs} q e =
+    rw q (record { from = le-refl lo; holds = record { long = e; is = sym (between-none lo lo g (vector xs) (le-refl lo)) } })
 
-  pub vector-ends : (f : ℕ → Float) {i n : ℕ} {xs : List Float} → VectorIn limit xs (between 0 i g f) → i ≤ n → n ≤ i → VectorIn limit xs (between 0 n g f)
-  vector-ends f h l m = rw (le-antisymm l m) at h
+module _ {limit lo : ℕ} {g f : ℕ → Float} {xs : List Float} {i : ℕ} (h : AlongVectorIn limit lo g f xs i) where
+  -- The place that is due is as at the start.
+  pub vector-due : vector xs i ≡ f i
+  vector-due = ap (λ (v : ℕ → Float). v i) (h .holds .is) ∙ between-past lo i g f i (le-refl i)
+
+  pub vector-turns : {x : Float} {ys : List Float} → VectorIn limit ys (replace i x (vector xs)) → x ≡ g i → AlongVectorIn limit lo g f ys (i + 1)
+  vector-turns k e =
+      record { from = omega (arith, h .from); holds = record { long = k .long; is = k .is ∙ rw (e, h .holds .is) (between-step lo i g f (h .from)) } }
+
+  pub vector-ends : {n : ℕ} → i ≤ n → n ≤ i → VectorIn limit xs (between lo n g f)
+  vector-ends l m = rw (le-antisymm l m) at (h .holds)
+
+-- In the working vectors.
+abbrev pub AlongVector : ℕ → (ℕ → Float) → (ℕ → Float) → List Float → ℕ → Type 0
+AlongVector lo g f xs i = AlongVectorIn 32 lo g f xs i

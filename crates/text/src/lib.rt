@@ -5,10 +5,10 @@ ghost use Prim.Native.Nat.{_*_, _≤_};
 ghost use lib.ListN.{length};
 ghost use Rattle.definitions.specs.Sheet.{place};
 ghost use Rattle.definitions.specs.Dwell.{secondsLine, tableLines};
-ghost use Rattle.answers.specs.Answers.{tableGiven};
+ghost use Rattle.answers.specs.Answers.{filledGiven};
 ghost use Rattle.buffer.specs.Pasted.{AtStart};
 ghost use Rattle.text.specs.AnswerText.{answerText};
-use answers::Table;
+use answers::Filled;
 
 // The lines of an accepted sheet, at the start of `out`; later bytes stay as they were. `answer`
 // holds the table row by row, and may be longer. Returns the length of the lines.
@@ -23,13 +23,13 @@ fn seconds_text(n: usize, allowance: usize, answer: &[f64], out: &mut [u8]) -> u
 }
 
 // The text for what the whole table's service answers; where it is accepted, `answer` holds the table.
-pub fn answer_text(told: Table, n: usize, answer: &[f64], out: &mut [u8]) -> usize
+pub fn answer_text(told: Filled, n: usize, answer: &[f64], out: &mut [u8]) -> usize
     requires { ⌜ (n ≤ 32) × (n * n ≤ length (now answer)) × (32768 ≤ length (now out)) ⌝ }
-    ensures { λ r. ⌜ AtStart (answerText n (now (answer .entry)) (tableGiven told)) (now (out .entry)) (now (out .exit)) r ⌝ }
+    ensures { λ r. ⌜ AtStart (answerText n (now (answer .entry)) (filledGiven told)) (now (out .entry)) (now (out .exit)) r ⌝ }
 {
     match told {
-        Table::Allowed { allowance } => seconds_text(n, allowance, answer, out),
-        Table::Refused {
+        Filled::Allowed { allowance } => seconds_text(n, allowance, answer, out),
+        Filled::Refused {
             number,
             row,
             column,
