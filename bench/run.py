@@ -1,13 +1,14 @@
 #!/usr/bin/env python3
 """Times and errors of the proved table and column beside plain C and LAPACK, in one run on one machine.
 
-    python3 bench/run.py [--quick] [--no-errors] [--goals] [--sizes 2,4,8] [--against libhosts.a]
+    python3 bench/run.py [--quick] [--no-errors] [--goals] [--sizes 2,4,8-12] [--against libhosts.a]
 
 builds the proved library (`rt staticlib hosts`), bench/steps.c and bench/time.c into target/bench, checks
-that all give the same bits and decisions, and prints four tables.  With --against the library of another
-commit runs beside it, and the first table has the ratios.  Standard library only; nothing is installed.
-Exit status 1 if bits or decisions differ, or an error is above its allowance; with --goals also if one column
-takes more of the whole table's time than it should, which other work on the machine can bring about.
+that all give the same bits and decisions, and prints five tables.  With --against the library of another
+commit runs beside it, and a last table says for each n whether sheets without idle stages take at most 1.03
+of its time.  Standard library only; nothing is installed.  Exit status 1 if bits or decisions differ, or an
+error is above its allowance; with --goals also if one column takes more of the whole table's time than it
+should, or a sheet more of the other library's, which other work on the machine can bring about.
 """
 from __future__ import annotations
 
@@ -36,11 +37,14 @@ COMMON = ["-std=c11", "-Wall", "-Wextra", "-ffp-contract=off"]
 VARIANTS = {"plain_O3": ["-O3"], "plain_O2": ["-O2"], "checked_O3": ["-O3", "-DCHECKED"],
             "checked_O2": ["-O2", "-DCHECKED"], "plain_native": ["-O3", "-march=native"]}
 OURS, OTHER, UNCHECKED, CHECKED, LAPACK = "yulanbowls", "other library", "C -O3", "checked C -O3", "LAPACK"
-WHOLE, COLUMN, UNCHECKED_COLUMN, CHECKED_COLUMN = (
-    "yulanbowls, whole table", "yulanbowls, one column", "C -O3, one column", "checked C -O3, one column")
-ONE_COLUMN = [COLUMN, UNCHECKED_COLUMN, CHECKED_COLUMN]
-DECIDES = [OURS, OTHER, "checked C -O3", "checked C -O2", WHOLE, COLUMN, CHECKED_COLUMN]
+WHOLE, COLUMN, OTHER_COLUMN, UNCHECKED_COLUMN, CHECKED_COLUMN = (
+    "yulanbowls, whole table", "yulanbowls, one column", "other library, one column", "C -O3, one column",
+    "checked C -O3, one column")
+ONE_COLUMN = [COLUMN, OTHER_COLUMN, UNCHECKED_COLUMN, CHECKED_COLUMN]
+DECIDES = [OURS, OTHER, "checked C -O3", "checked C -O2", WHOLE, COLUMN, OTHER_COLUMN, CHECKED_COLUMN]
 GOALS = {8: 0.7, 32: 0.55}      # the most of the whole table's time that one column takes, for these n
+OTHER_GOAL = 1.03               # the most of the other library's time that a sheet without idle stages takes
+OTHER_NAMES = {"yulanbowls_table": "other_table", "yulanbowls_column": "other_column"}
 UNIT = 2.0 ** -53
 
 failures: list[str] = []
@@ -81,12 +85,19 @@ def build_library() -> None:
 
 
 def renamed(archive: Path) -> Path:
-    """Another library as one object that shows its table alone, as other_table."""
+    """Another library as one object that shows its table and its column alone, under other names."""
     one = BUILD / "other.o"
     run(["ld", "-r", "--whole-archive", archive, "-o", one])
-    run(["objcopy", "--keep-global-symbol=yulanbowls_table", one])
-    run(["objcopy", "--redefine-sym", "yulanbowls_table=other_table", one])
+    run(["objcopy", *(f"--keep-global-symbol={name}" for name in OTHER_NAMES), one])
+    run(["objcopy", *(f"--redefine-sym={name}={new}" for name, new in OTHER_NAMES.items()), one])
     return one
+
+
+def other_flags(other: Optional[Path]) -> list[str]:
+    """What time.c is told of the other library, which has no column if it is older than that."""
+    if other is None:
+        return []
+    return ["-DOTHER", *(["-DOTHER_COLUMN"] if b" T yulanbowls_column\n" in run(["nm", other]).stdout else [])]
 
 
 def build(other: Optional[Path]) -> Path:
@@ -102,7 +113,7 @@ def build(other: Optional[Path]) -> Path:
         print("No OpenBLAS here, so LAPACK's rows are left out. On Debian this installs it:\n"
               "    apt-get install libopenblas-dev\n")
     program = BUILD / "time"
-    run(["cc", *COMMON, "-O2", *(["-DLAPACK"] if lapack else []), *(["-DOTHER"] if other else []), "-I", ROOT / "include",
+    run(["cc", *COMMON, "-O2", *(["-DLAPACK"] if lapack else []), *other_flags(other), "-I", ROOT / "include",
          ROOT / "bench" / "time.c", *objects, ARCHIVE, *(["-lopenblas"] if lapack else []), "-o", program])
     return program
 
@@ -281,7 +292,10 @@ def machine_line(lapack: str) -> str:
     return f"Machine: {models[0] if models else 'unknown'}, {os.cpu_count()} processors. C: {compiler}. LAPACK: {blas}."
 
 
-def part_times(program: Path, sizes: Sequence[int], batches: int) -> None:
+Beside = dict[str, list[float]]     # what was timed, and for each size our time over the other library's
+
+
+def part_times(program: Path, sizes: Sequence[int], batches: int) -> Beside:
     """Both readings."""
     dense = timing_groups(1, sizes, batches, lambda rng, n: sheets.dense(rng, n, 0.01))
     margins = timing_groups(2, sizes, batches, lambda rng, n: sheets.dense(rng, n, 0.01))
@@ -313,9 +327,13 @@ def part_times(program: Path, sizes: Sequence[int], batches: int) -> None:
     both = [{**found, OURS + ", half kept": other[OURS]}
             for found, other in zip(times[count:2 * count], times[2 * count:])]
     print_times(sizes, both, [LAPACK, OTHER])
-    if OTHER in times[0]:
-        print("The same with every second stage not kept.\n")
-        print_times(sizes, [{name: found[name] for name in (OURS, OTHER)} for found in times[2 * count:]], [OTHER])
+    if OTHER not in times[0]:
+        return {}
+    print("The same with every second stage not kept.\n")
+    print_times(sizes, [{name: found[name] for name in (OURS, OTHER)} for found in times[2 * count:]], [OTHER])
+    ratios = [found[OURS].nanoseconds / found[OTHER].nanoseconds for found in times]
+    return {"whole table, reading 1": ratios[:count], "whole table, reading 2": ratios[count:2 * count],
+            "reading 2, every second stage not kept": ratios[2 * count:]}
 
 
 # ==== 2. The slow path ====
@@ -505,7 +523,7 @@ def print_goals(sizes: Sequence[int], times: Sequence[dict[str, Result]], must: 
     print(flush=True)
 
 
-def part_columns(program: Path, sizes: Sequence[int], batches: int, must: bool) -> None:
+def part_columns(program: Path, sizes: Sequence[int], batches: int, must: bool) -> Beside:
     """One column beside the whole table."""
     untimed, edges = column_groups(sizes, 0), column_edge_groups(random.Random(8), 40)
     before = len(failures)
@@ -519,25 +537,90 @@ def part_columns(program: Path, sizes: Sequence[int], batches: int, must: bool) 
     if len(failures) == before:
         print(f"Same bits and decisions as tools/reference.py on the {3 * len(untimed)} timing sheets and on "
               f"{2 * len(edges)} sheets at\nthe edge of one column's range.\n")
-    print_times(sizes, times, [WHOLE, UNCHECKED_COLUMN])
+    print_times(sizes, times, [WHOLE, UNCHECKED_COLUMN, OTHER_COLUMN])
     print_goals(sizes, times, must)
+    if OTHER_COLUMN not in times[0]:
+        return {}
+    return {"one column": [found[COLUMN].nanoseconds / found[OTHER_COLUMN].nanoseconds for found in times]}
+
+
+# ==== 5. Idle stages ====
+
+NONE_IDLE, HALF_IDLE, OTHERS_ALONE, OF_AN_IDLE = ("none idle", "half idle", "the others alone",
+                                                  "half idle, of an idle stage")
+
+
+def idle_groups(n: int, batches: int) -> dict[str, Group]:
+    """Three sheets each, asked for the first, the middle and the last of some stages: dense ones; such with every
+    second stage idle, asked for the others and for idle ones; and the others of these alone."""
+    def group(of: Sequence[Sheet], stages: Sequence[int]) -> Group:
+        asked = [stages[0], stages[len(stages) // 2], stages[-1]]
+        return without_matrices(Group(1, math.isqrt(len(of[0])), list(of), batches, stages=asked))
+
+    rng = random.Random(n)
+    dense = [sheets.dense(rng, n, 0.01) for _ in range(3)]
+    half = [sheets.with_idle_stages(rng, n) for _ in range(3)]
+    alone = [sheets.others_alone(n, sheet) for sheet in half]
+    return {NONE_IDLE: group(dense, range(1, n + 1)), HALF_IDLE: group(half, range(1, n + 1, 2)),
+            OF_AN_IDLE: group(half, range(2, n + 1, 2)), OTHERS_ALONE: group(alone, range(1, (n + 1) // 2 + 1))}
+
+
+def part_idle(program: Path, sizes: Sequence[int], batches: int) -> None:
+    """Sheets with idle stages, which the other candidates know nothing of."""
+    cases = [idle_groups(n, batches) for n in sizes]
+    _, results = run_groups(program, [group for groups in cases for group in groups.values()])
+    in_order = iter(results)
+    found = [{kind: next(in_order) for kind in groups} for groups in cases]
+    for groups, of_size in zip(cases, found):
+        for kind, group in groups.items():
+            check_answers(f"sheets with {kind}", group, {name: of_size[kind][name] for name in (WHOLE, COLUMN)})
+    kinds = {WHOLE: [NONE_IDLE, HALF_IDLE, OTHERS_ALONE], COLUMN: [NONE_IDLE, HALF_IDLE, OF_AN_IDLE, OTHERS_ALONE]}
+    print(f"5. Sheets with idle stages, reading 1, best of {batches} batches, for information. Half idle: every\n"
+          "second stage from the second is idle, the others are dense. None idle: a dense sheet of n stages. The\n"
+          "others alone: a sheet of the stages that are not idle.\n")
+    print_table(["nanoseconds, n =", *(str(n) for n in sizes)],
+                [[f"{name}, {kind}", *(f"{of_size[kind][name].nanoseconds:.0f}" for of_size in found)]
+                 for name, of_name in kinds.items() for kind in of_name])
+
+
+# ==== 6. Beside the other library ====
+
+def part_beside(sizes: Sequence[int], beside: Beside, must: bool) -> None:
+    """The goal beside the other library for each size; it is a check where it must be met."""
+    rows = []
+    for what, ratios in beside.items():
+        rows.append([what, *(f"{ratio:.3f}" for ratio in ratios)])
+        rows.append(["", *("met" if ratio <= OTHER_GOAL else "missed" for ratio in ratios)])
+    print("6. Time of sheets without idle stages over the other library's. The goal is at most "
+          f"{OTHER_GOAL} for every n.\n")
+    print_table(["time / other library's, n =", *(str(n) for n in sizes)], rows)
+    for what, ratios in beside.items():
+        missed = [str(n) for n, ratio in zip(sizes, ratios) if ratio > OTHER_GOAL]
+        check(not missed or not must, f"the goal beside the other library: {what}, n = {', '.join(missed)}")
 
 
 # ==== Command line ====
+
+def parsed_sizes(text: str) -> list[int]:
+    """The sizes that a text lists, such as 2,4,8-12."""
+    ends = [(part.split("-", 1) * 2)[:2] for part in text.split(",")]
+    return [n for first, last in ends for n in range(int(first), int(last) + 1)]
+
 
 def parsed(arguments: Sequence[str]) -> argparse.Namespace:
     parser = argparse.ArgumentParser(description="Times and errors of the proved table and column, plain C and LAPACK.")
     parser.add_argument("--quick", action="store_true", help="few batches and small sheets, for a test")
     parser.add_argument("--no-errors", action="store_true", help="leave out the table of errors")
-    parser.add_argument("--goals", action="store_true", help="fail if one column takes too much of the table's time")
-    parser.add_argument("--sizes", default=None, metavar="N,N,..", help="the sizes of the first table and the last")
+    parser.add_argument("--goals", action="store_true", help="fail if one column takes too much of the table's time, "
+                                                             "or a sheet without idle stages of the other library's")
+    parser.add_argument("--sizes", default=None, metavar="N,N-N,..", help="the sizes where times are compared")
     parser.add_argument("--against", type=Path, default=None, metavar="ARCHIVE", help="another commit's libhosts.a")
     options = parser.parse_args(arguments)
     try:
-        options.sizes = [int(n) for n in options.sizes.split(",")] if options.sizes else SIZES
+        options.sizes = parsed_sizes(options.sizes) if options.sizes else SIZES
     except ValueError:
-        parser.error("--sizes takes whole numbers with commas between them")
-    if not all(1 <= n <= reference.LIMIT for n in options.sizes):
+        parser.error("--sizes takes whole numbers, or first and last with a dash, with commas between them")
+    if not options.sizes or not all(1 <= n <= reference.LIMIT for n in options.sizes):
         parser.error("--sizes takes numbers from 1 to 32")
     return options
 
@@ -547,11 +630,14 @@ def main(arguments: Sequence[str]) -> int:
     options = parsed(arguments)
     program = build(options.against)
     batches = 50 if options.quick else 2000
-    part_times(program, options.sizes, batches)
+    beside = part_times(program, options.sizes, batches)
     part_slow_path(program, [8, 32], batches // 5)
     if not options.no_errors:
         part_errors(program, [4, 8] if options.quick else [4, 8, 16, 32])
-    part_columns(program, options.sizes, batches, options.goals)
+    beside |= part_columns(program, options.sizes, batches, options.goals)
+    part_idle(program, [n for n in options.sizes if n > 1], batches // 5)
+    if beside:
+        part_beside(options.sizes, beside, options.goals)
     print(f"{len(failures)} checks failed" if failures else "All checks passed")
     return 1 if failures else 0
 

@@ -33,6 +33,18 @@ def with_stages_not_kept(rng: random.Random, n: int, margin: float, larger: floa
     return sheet
 
 
+def with_idle_stages(rng: random.Random, n: int) -> Sheet:
+    """Reading 1: every second stage from the second is idle, the others are dense."""
+    sheet = dense(rng, n, 0.01)
+    return [0.0 if i % 2 == 1 or j % 2 == 1 else sheet[i * n + j] for i in range(n) for j in range(n)]
+
+
+def others_alone(n: int, sheet: Sheet) -> Sheet:
+    """The sheet of the stages that are not idle."""
+    live = reference.live_stages(1, n, sheet)
+    return [sheet[i * n + j] for i in live for j in live]
+
+
 def scaled(sheet: Sheet, exponent: int) -> Sheet:
     """The sheet with every rate times 2^exponent."""
     return [math.ldexp(x, exponent) for x in sheet]

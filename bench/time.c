@@ -16,7 +16,7 @@
 
 #include "yulanbowls.h"
 
-enum { LIMIT = 32, MOST = LIMIT * LIMIT, WORKSPACE = 64 * LIMIT, MOST_GROUPS = 256, MOST_CANDIDATES = 12 };
+enum { LIMIT = 32, MOST = LIMIT * LIMIT, WORKSPACE = 64 * LIMIT, MOST_GROUPS = 256, MOST_CANDIDATES = 13 };
 enum { TURN = 10 };                           /* batches of a group before the next group has its turn */
 static const double shortest_batch = 20000.0; /* nanoseconds: long beside what a look at the clock costs */
 
@@ -66,6 +66,18 @@ static size_t other(const struct group *g, size_t at, double *answer)
 {
     size_t allowance, row, column, places = g->n * g->n;
     return other_table(g->reading, g->n, sheet_of(g, at), places, answer, places, &allowance, &row, &column);
+}
+#endif
+
+#ifdef OTHER_COLUMN
+size_t other_column(size_t reading, size_t n, const double *sheet, size_t sheet_len, size_t stage, double *answer,
+                    size_t answer_len, size_t *allowance, size_t *row, size_t *column);
+
+static size_t other_one(const struct group *g, size_t at, double *answer)
+{
+    size_t allowance, row, column;
+    return other_column(g->reading, g->n, sheet_of(g, at), g->n * g->n, g->stages[at], answer, g->n, &allowance, &row,
+                        &column);
 }
 #endif
 
@@ -127,6 +139,9 @@ static const struct candidate candidates[] = {
 #endif
     {"yulanbowls, whole table", proved, COLUMNS, 0},
     {"yulanbowls, one column", proved_column, COLUMNS, 1},
+#ifdef OTHER_COLUMN
+    {"other library, one column", other_one, COLUMNS, 1},
+#endif
     {"C -O3, one column", one_plain_O3, COLUMNS, 1},
     {"checked C -O3, one column", one_checked_O3, COLUMNS, 1},
 };

@@ -9,7 +9,9 @@
  *   holds minus the rate per second of moving from stage i to stage j. The diagonal place of stage i holds
  *     reading 1: the rate at which requests leave for good, zero or above;
  *     reading 2: the margin of row i, above zero.
- *   Stages, rows and columns are numbered from 1.
+ *   Stages, rows and columns are numbered from 1. In reading 1 a stage whose row and column are all zero, the
+ *   diagonal place included, is idle. Idle stages keep their numbers and n counts them, but the computation
+ *   leaves them out. A zero of either sign is a zero.
  *
  * The answer of a call
  *   Every call but yulanbowls_report returns 0 if it is accepted, and else the number of its refusal. `*row`
@@ -30,7 +32,8 @@
  *        7  a number has the wrong sign: off the diagonal it is above zero,       of the first such number
  *           or on it below zero (reading 1), or not above zero (reading 2)
  *        8  a number is not zero and smaller in size than 2^-1022                 of the first such number
- *        9  reading 1: from some stage no chain of moves leads out                of the lowest such stage, 0
+ *        9  reading 1: from some stage that is not idle no chain of moves         of the lowest such stage, 0
+ *           leads out
  *       10  a step of the computation leaves the range of binary64: a result      0, 0
  *           is not finite, or a product or quotient of numbers that are not
  *           zero is not above 2^-1022
@@ -52,7 +55,7 @@
  *   - The floating-point environment is that in which a C program starts: results are rounded to nearest,
  *     small numbers are neither flushed to zero nor read as zero, exceptions are masked. The code uses SSE2,
  *     which every x86-64 has. A call may set status flags.
- *   - Some 52,000 bytes of stack are left for the call (measured, not proved). It takes no memory
+ *   - Some 60,000 bytes of stack are left for the call (measured, not proved). It takes no memory
  *     elsewhere, and needs memcpy and memset of the C library alone.
  */
 #ifndef YULANBOWLS_H
@@ -74,10 +77,11 @@ extern "C" {
 
 /*
  * The whole table. Accepted: the first n * n places of `answer` hold it row by row, place (i, j) the seconds
- * that a request entering at stage i spends at stage j, and later places are unchanged. `*allowance` is E =
- * 4n^3 (reading 1) or 12n^3 (reading 2): the exact matrix of the sheet has one inverse, no entry of which is
- * negative, and each entry of the table is within a factor (1 + 2^-53)^E of that inverse's, above and below,
- * so it is zero exactly where that is zero. The bits are those of the published steps, each rounded once.
+ * that a request entering at stage i spends at stage j, and later places are unchanged. Every entry in the row
+ * or the column of an idle stage is plus zero. `*allowance` is E = 4n^3 (reading 1) or 12n^3 (reading 2): the
+ * exact matrix of the stages that are not idle has one inverse, no entry of which is negative, and each of
+ * their entries is within a factor (1 + 2^-53)^E of that inverse's, above and below, so it is zero exactly
+ * where that is zero. The bits are those of the published steps, each rounded once.
  */
 size_t yulanbowls_table(size_t reading, size_t n,
                         const double *sheet, size_t sheet_length,
@@ -97,9 +101,11 @@ size_t yulanbowls_entry(size_t reading, size_t n,
  * The column of one stage, for reading 1 alone: reading 2 is refused with 1. `answer` needs room for n numbers.
  * Accepted: its first n places hold the column, place i the seconds that a request entering at stage i spends
  * at `stage`, and later places are unchanged. `*allowance` is E = 4n^3, and each number is within a factor
- * (1 + 2^-53)^E of that entry of the exact inverse, as in the table. Where the whole table is accepted so is
- * each of its columns, with the same bits. The call takes fewer steps than the table, so it may be accepted
- * where the whole table is refused with 10; its accuracy is the same there.
+ * (1 + 2^-53)^E of that entry of the exact inverse, or plus zero for an idle stage, as in the table. Where the
+ * whole table is accepted so is each of its columns, with the same bits. The call takes fewer steps than the
+ * table, so it may be accepted where the whole table is refused with 10; its accuracy is the same there. The
+ * column of an idle stage is n plus zeros; it is refused with 10 where a step that serves every column leaves
+ * the range.
  */
 size_t yulanbowls_column(size_t reading, size_t n,
                          const double *sheet, size_t sheet_length,

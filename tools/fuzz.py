@@ -6,7 +6,8 @@
 makes N calls of each export (10,000 if not said) in this process and compares the number returned, every out
 place and every place of every lent area, before and after, bit for bit (`tools/hosts.py`).  The calls depend
 on the seed alone.  A line for each export says how many calls had which answer.  Exit status 1 at the first
-difference, which is printed with its call, or if a refusal of an export never came up in 10,000 calls or more.
+difference, which is printed with its call, or if a refusal of an export, or an accepted sheet with idle stages
+where it makes seconds, never came up in 10,000 calls or more.
 """
 from __future__ import annotations
 
@@ -20,7 +21,7 @@ import time
 from collections import Counter
 from dataclasses import dataclass
 from pathlib import Path
-from typing import Callable, Sequence
+from typing import Callable, NamedTuple, Sequence
 
 from hosts import PLACES, TEXT_BYTES, Calls, Difference, Library, declared
 import reference
@@ -76,7 +77,7 @@ def trapped_sheet(rng: random.Random, n: int) -> list[float]:
     return [number(i, j) for i in range(n) for j in range(n)]
 
 
-def some_numbers(rng: random.Random, reading: int, n: int) -> list[float]:
+def table_numbers(rng: random.Random, reading: int, n: int) -> list[float]:
     """The numbers of a sheet of some kind."""
     kind = rng.random()
     if kind < 0.3:
@@ -124,7 +125,7 @@ def column_numbers(rng: random.Random, n: int) -> list[float]:
     """The numbers of a sheet of reading 1: mostly rates so far apart that often only some columns are in range."""
     kind = rng.random()
     if kind < 0.4:
-        return some_numbers(rng, reference.LEAVING_RATES, n)
+        return table_numbers(rng, reference.LEAVING_RATES, n)
     if kind < 0.43 and n > 1:
         return lost_pivot_sheet(rng, n)
     numbers = reference.uneven_sheet(rng, n)
@@ -134,11 +135,33 @@ def column_numbers(rng: random.Random, n: int) -> list[float]:
     return numbers
 
 
+def idle_sheet(rng: random.Random, n: int, make: Callable[[random.Random, int], list[float]]) -> list[float]:
+    """A sheet of reading 1 with idle stages at any places, at times with no others; at times one of them is
+    idle but for a single number in its row or its column."""
+    live = rng.choice([0, n - 1, *range(n + 1)])
+    own, numbers = reference.among_idle(rng, live, make(rng, live) if live else [], n)
+    idle = [i for i in range(n) if i not in own]
+    if idle and rng.random() < 0.3:
+        i, j = rng.choice(idle), rng.randrange(n)
+        size = rng.choice([1.0, SMALLEST_NORMAL, LARGEST, edge_number(rng)])
+        row, column = rng.choice([(i, j), (j, i), (i, i)])
+        numbers[row * n + column] = size if row == column else -size
+    return numbers
+
+
+def some_numbers(rng: random.Random, reading: int, n: int, for_column: bool = False) -> list[float]:
+    """The numbers of a sheet; of reading 1 often with idle stages."""
+    def make(rng: random.Random, n: int) -> list[float]:
+        return column_numbers(rng, n) if for_column else table_numbers(rng, reading, n)
+
+    with_idle = reading == reference.LEAVING_RATES and rng.random() < 0.25
+    return idle_sheet(rng, n, make) if with_idle else make(rng, n)
+
+
 def some_sheet(rng: random.Random, for_column: bool = False) -> Sheet:
     """A sheet as a caller may lend it: most are whole, some are damaged or not what the other arguments say."""
     reading, n = 1 if for_column else rng.choice([1, 2]), some_n(rng)
-    numbers = column_numbers(rng, n) if for_column else some_numbers(rng, reading, n)
-    words = [bits_of(x) for x in numbers]
+    words = [bits_of(x) for x in some_numbers(rng, reading, n, for_column)]
     if rng.random() < 0.2:
         words = damaged(rng, words)
     if rng.random() < 0.03:
@@ -205,32 +228,50 @@ def damaged_file(rng: random.Random, data: bytes, n: int) -> bytes:
 
 # ==== The exports ====
 
-def call_table(calls: Calls, rng: random.Random) -> int:
+class Outcome(NamedTuple):
+    """What came of a call: 0 or the number of the refusal, and whether the call is accepted with idle stages."""
+    number: int
+    idle: bool = False
+
+
+Call = Callable[[Calls, random.Random], Outcome]
+
+
+def outcome(number: int, reading: int, n: int, words: Sequence[int]) -> Outcome:
+    """The outcome of a call that makes seconds of this sheet."""
+    numbers = [reference.number_of(word) for word in words]
+    return Outcome(number, number == 0 and len(reference.live_stages(reading, n, numbers)) < n)
+
+
+def call_table(calls: Calls, rng: random.Random) -> Outcome:
     """The whole table."""
     sheet = some_sheet(rng)
-    return calls.table(sheet.reading, sheet.n, sheet.words, some_room(rng, min(sheet.n, 33) ** 2))[0]
+    told = calls.table(sheet.reading, sheet.n, sheet.words, some_room(rng, min(sheet.n, 33) ** 2))
+    return outcome(told[0], sheet.reading, sheet.n, sheet.words)
 
 
-def call_entry(calls: Calls, rng: random.Random) -> int:
+def call_entry(calls: Calls, rng: random.Random) -> Outcome:
     """One entry."""
     sheet = some_sheet(rng)
     i, j = some_stage(rng, sheet.n), some_stage(rng, sheet.n)
-    return calls.entry(sheet.reading, sheet.n, sheet.words, i, j)[0]
+    told = calls.entry(sheet.reading, sheet.n, sheet.words, i, j)
+    return outcome(told[0], sheet.reading, sheet.n, sheet.words)
 
 
-def call_column(calls: Calls, rng: random.Random) -> int:
+def call_column(calls: Calls, rng: random.Random) -> Outcome:
     """One column."""
     sheet = some_sheet(rng, for_column=True)
     stage = some_stage(rng, sheet.n)
-    return calls.column(sheet.reading, sheet.n, sheet.words, stage, some_room(rng, min(sheet.n, 33)))[0]
+    told = calls.column(sheet.reading, sheet.n, sheet.words, stage, some_room(rng, min(sheet.n, 33)))
+    return outcome(told[0], sheet.reading, sheet.n, sheet.words)
 
 
-def reader(name: str) -> Callable[[Calls, random.Random], int]:
+def reader(name: str) -> Call:
     """One of the two readers of files."""
-    def call(calls: Calls, rng: random.Random) -> int:
+    def call(calls: Calls, rng: random.Random) -> Outcome:
         data = some_file(rng)
         n = data[8] if len(data) > 8 else 1
-        return calls.read(name, data, some_room(rng, min(n, 33) ** 2))[0]
+        return Outcome(calls.read(name, data, some_room(rng, min(n, 33) ** 2))[0])
     return call
 
 
@@ -243,28 +284,32 @@ def saved_sheet(rng: random.Random) -> Sheet:
     return sheet
 
 
-def writer(name: str) -> Callable[[Calls, random.Random], int]:
+def writer(name: str) -> Call:
     """One of the two writers of files."""
-    def call(calls: Calls, rng: random.Random) -> int:
+    def call(calls: Calls, rng: random.Random) -> Outcome:
         sheet = saved_sheet(rng)
         n = min(sheet.n, 33)
         needed = 10 + n * (8 * n + 8)
         kind = rng.random()
         room = (rng.choice([0, 9, needed - 1, rng.randrange(needed)]) if kind < 0.06
                 else needed + (0 if kind < 0.5 else rng.choice([1, 2, 7, 40, 9000])))
-        return calls.save(name, sheet.reading, sheet.n, sheet.words, room)[0]
+        return Outcome(calls.save(name, sheet.reading, sheet.n, sheet.words, room)[0])
     return call
 
 
-def call_report(calls: Calls, rng: random.Random) -> int:
+def call_report(calls: Calls, rng: random.Random) -> Outcome:
     """A report; the refusal that its text tells."""
     room = TEXT_BYTES + rng.choice([0, 0, 1, 100]) if rng.random() < 0.98 else rng.choice([0, 1, TEXT_BYTES - 1])
-    text = calls.report(some_file(rng), room).split()
-    return int(text[1]) if text and text[0] == b"refused" else 0
+    data = some_file(rng)
+    text = calls.report(data, room).split()
+    if text and text[0] == b"seconds":
+        sheet = reference.load(data, PLACES)
+        return outcome(0, sheet.reading, sheet.n, sheet.words)
+    return Outcome(int(text[1]) if text else 0)
 
 
-# Each export with the refusals that it can answer.
-EXPORTS: dict[str, tuple[Callable[[Calls, random.Random], int], set[int]]] = {
+# Each export with the refusals that it can answer; those that can answer 9 make seconds of a sheet.
+EXPORTS: dict[str, tuple[Call, set[int]]] = {
     "yulanbowls_table": (call_table, {1, 2, 3, 4, 6, 7, 8, 9, 10}),
     "yulanbowls_entry": (call_entry, {1, 2, 3, 5, 6, 7, 8, 9, 10}),
     "yulanbowls_column": (call_column, {1, 2, 3, 4, 5, 6, 7, 8, 9, 10}),
@@ -277,23 +322,29 @@ EXPORTS: dict[str, tuple[Callable[[Calls, random.Random], int], set[int]]] = {
 
 
 def fuzz(library: Library, name: str, count: int, seed: int) -> bool:
-    """So many calls of one export; whether all agreed and every refusal came up."""
+    """So many calls of one export; whether all agreed, and every refusal and idle stages came up."""
     call, refusals = EXPORTS[name]
     seen: Counter[int] = Counter()
+    idle = 0
     began = time.monotonic()
     for at in range(count):
         rng = random.Random(f"{seed} {name} {at}")
         try:
-            seen[call(Calls(library, rng), rng)] += 1
+            came = call(Calls(library, rng), rng)
         except Difference as difference:
             print(f"{name}: call {at} of seed {seed}: {difference}", flush=True)
             return False
+        seen[came.number] += 1
+        idle += came.idle
     answers = ", ".join(f"{number} {seen[number]}" for number in sorted(seen) if number)
+    with_idle = f", {idle} with idle stages" if 9 in refusals else ""
     rate = count / (time.monotonic() - began)
-    print(f"{name}: {count} calls agree ({rate:.0f} a second); accepted {seen[0]}; refused: {answers}", flush=True)
-    missing = refusals - set(seen)
+    print(f"{name}: {count} calls agree ({rate:.0f} a second); accepted {seen[0]}{with_idle}; refused: {answers}",
+          flush=True)
+    missing = [f"refused with {number}" for number in sorted(refusals - set(seen))]
+    missing += ["accepted with idle stages"] if with_idle and not idle else []
     if missing and count >= 10000:
-        print(f"{name}: never refused with {sorted(missing)}", flush=True)
+        print(f"{name}: never {', '.join(missing)}", flush=True)
     return not (missing and count >= 10000)
 
 

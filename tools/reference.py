@@ -18,7 +18,7 @@ import sys
 import time
 from dataclasses import dataclass
 from fractions import Fraction
-from typing import Callable, Iterable, Optional, Sequence, Union
+from typing import Callable, Iterable, Optional, Sequence, TypeVar, Union
 
 LIMIT = 32                      # the most stages of a sheet
 SMALLEST_NORMAL = 2.0 ** -1022  # products and quotients of nonzero numbers stay above it
@@ -28,6 +28,7 @@ LEAVING_RATES, MARGINS = 1, 2
 
 Row = list[float]
 Matrix = list[Row]
+T = TypeVar("T")
 
 
 # ==== Answers ====
@@ -171,12 +172,13 @@ def eliminate(sizes: Matrix, leaving: Row) -> Elimination:
     return Elimination(p, m)
 
 
-def solve_column(elimination: Elimination, j: int) -> list[float]:
-    """The steps of column j of b, which starts as column j of the identity, and its last divisions."""
+def solve_column(elimination: Elimination, j: Optional[int]) -> list[float]:
+    """The steps of column j of b, which starts as column j of the identity, and its last divisions; without a
+    j those of a column of zeros (02, U3)."""
     p, m = elimination.pivots, elimination.multipliers
     r = len(p)
     b = [1.0 if i == j else 0.0 for i in range(r)]
-    for k in range(j, r):  # stage k touches the columns 1 to k alone
+    for k in range(j or 0, r):  # stage k touches the columns 1 to k alone
         for i in range(k + 1, r):
             b[i] = add(b[i], mul(m[k][i], b[k]))
     for k in range(r - 1, 0, -1):
@@ -276,8 +278,37 @@ def sheet_parts(n: int, sheet: Sequence[float]) -> tuple[Matrix, Row]:
     return sizes, [sheet[i * n + i] + 0.0 for i in range(n)]
 
 
+def live_stages(reading: int, n: int, sheet: Sequence[float]) -> list[int]:
+    """The stages that are not idle, in their order.  In reading 1 a stage whose row and column are all zero, the
+    diagonal included, is idle (02, U3); in reading 2 none is."""
+    return [i for i in range(n) if reading != LEAVING_RATES
+            or any(sheet[i * n + j] != 0.0 or sheet[j * n + i] != 0.0 for j in range(n))]
+
+
+def compact(live: Sequence[int], matrix: Sequence[Sequence[T]]) -> list[list[T]]:
+    """The rows and columns of the live stages alone."""
+    return [[matrix[i][j] for j in live] for i in live]
+
+
+def live_parts(n: int, sheet: Sequence[float], live: Sequence[int]) -> tuple[Matrix, Row]:
+    """The sizes and diagonal parameters of the live stages."""
+    sizes, diagonal = sheet_parts(n, sheet)
+    return compact(live, sizes), [diagonal[i] for i in live]
+
+
+def own_places(n: int, live: Sequence[int], values: Sequence[T], zero: T) -> list[T]:
+    """The values of the live stages, each under its own stage's number, and zero at every idle one."""
+    own = dict(zip(live, values, strict=True))
+    return [own.get(i, zero) for i in range(n)]
+
+
+def own_rows(n: int, live: Sequence[int], matrix: Sequence[Sequence[T]], zero: T) -> list[list[T]]:
+    """The same for the rows and columns of a matrix."""
+    return own_places(n, live, [own_places(n, live, row, zero) for row in matrix], [zero] * n)
+
+
 def allowance(reading: int, n: int) -> int:
-    """4n³ for leaving rates, 12n³ for margins."""
+    """4n³ for leaving rates, 12n³ for margins; n counts idle stages too."""
     return (4 if reading == LEAVING_RATES else 12) * n ** 3
 
 
@@ -342,7 +373,7 @@ def ask_normal(n: int, sheet: Sequence[float]) -> Optional[Refused]:
 
 def ask_trapped(reading: int, n: int, sheet: Sequence[float]) -> Optional[Refused]:
     """Question 9, reading 1 alone: marks stages that get out until no more are found; the lowest other is
-    trapped."""
+    trapped, but an idle stage is not."""
     if reading != LEAVING_RATES:
         return None
     sizes, leaving = sheet_parts(n, sheet)
@@ -351,7 +382,8 @@ def ask_trapped(reading: int, n: int, sheet: Sequence[float]) -> Optional[Refuse
     while sum(marked) != count:
         count = sum(marked)
         marked = [marked[i] or any(sizes[i][j] != 0.0 and marked[j] for j in range(n)) for i in range(n)]
-    return None if all(marked) else Refused(9, marked.index(False) + 1)
+    trapped = [i for i in live_stages(reading, n, sheet) if not marked[i]]
+    return Refused(9, trapped[0] + 1) if trapped else None
 
 
 def ask_numbers(reading: int, n: int, sheet: Sequence[float]) -> Optional[Refused]:
@@ -363,13 +395,15 @@ def ask_numbers(reading: int, n: int, sheet: Sequence[float]) -> Optional[Refuse
 # ==== The services ====
 
 def invert(reading: int, n: int, sheet: Sequence[float]) -> Union[Matrix, Refused]:
-    """The table by its reading's steps, or question 10's no."""
-    sizes, diagonal = sheet_parts(n, sheet)
+    """The table by its reading's steps, or question 10's no.  Idle stages are left out of the steps, and every
+    entry in an idle row or column is plus zero."""
+    live = live_stages(reading, n, sheet)
     steps = invert_leaving_rates if reading == LEAVING_RATES else invert_margins
     try:
-        return steps(sizes, diagonal)
+        x = steps(*live_parts(n, sheet, live))
     except OutOfRange:
         return Refused(10)
+    return own_rows(n, live, x, 0.0)
 
 
 def table(reading: int, n: int, sheet: Sequence[float], area_length: int) -> Union[Table, Refused]:
@@ -396,16 +430,19 @@ def entry(reading: int, n: int, sheet: Sequence[float], i: int, j: int) -> Union
 
 def column(reading: int, n: int, sheet: Sequence[float], stage: int, area_length: int) -> Union[Column, Refused]:
     """One column (02, U2): questions 1 to 10, of which 4 asks for n numbers and 5 about the one stage; 10
-    looks at the steps that serve every column and at those of this column of b, and at no other."""
+    looks at the steps that serve every column and at those of this column of b, and at no other.  For an idle
+    stage all steps of the others are taken with a column of zeros."""
     refusal = (ask_leaving_rates(reading) or ask_size(n) or ask_sheet_length(n, sheet)
                or ask_area(n, area_length) or ask_stages(n, stage) or ask_numbers(reading, n, sheet))
     if refusal:
         return refusal
+    live = live_stages(reading, n, sheet)
+    own = live.index(stage - 1) if stage - 1 in live else None
     try:
-        entries = solve_column(eliminate(*sheet_parts(n, sheet)), stage - 1)
+        entries = solve_column(eliminate(*live_parts(n, sheet, live)), own)
     except OutOfRange:
         return Refused(10)
-    return Column(entries, allowance(reading, n))
+    return Column(own_places(n, live, entries, 0.0), allowance(reading, n))
 
 
 # ==== The sheet file and the dwell program (01, "The sheet file") ====
@@ -603,17 +640,22 @@ def rounded(q: Fraction, digits: int, up: bool) -> Fraction:
 def exact_bounds(reading: int, n: int, sheet: Sequence[float]) -> tuple[Inverse, Inverse]:
     """Bounds of the exact inverse, entry by entry; both are the exact inverse where that is short enough.
 
+    It is the inverse over the stages that are not idle, each under its own number, and zero in an idle row or
+    column (02, U3).
+
     The exact a_ii of margins grow beyond reach with n.  With k_i trimmed downward every a_ii is at most
     the exact one; if that matrix is a nonsingular M-matrix so is A, and its inverse is nowhere below A's
     (L^-1 − A^-1 = A^-1 (A − L) L^-1).  Trimmed upward the same holds the other way round.  Digits are
     added until the two agree to 2^-64.
     """
-    if reading == LEAVING_RATES or n <= EXACT_MARGINS_LIMIT:
-        inverse = inverse_of(exact_matrix(reading, n, sheet))
-        if inverse is None:
-            raise ArithmeticError("the exact matrix is no nonsingular M-matrix")
-        return inverse, inverse
-    return trimmed_bounds(reading, n, sheet)
+    if reading == MARGINS and n > EXACT_MARGINS_LIMIT:
+        return trimmed_bounds(reading, n, sheet)
+    live = live_stages(reading, n, sheet)
+    inverse = inverse_of(compact(live, exact_matrix(reading, n, sheet)))
+    if inverse is None:
+        raise ArithmeticError("the exact matrix is no nonsingular M-matrix")
+    whole = own_rows(n, live, inverse, (0, 1))
+    return whole, whole
 
 
 def trimmed_bounds(reading: int, n: int, sheet: Sequence[float]) -> tuple[Inverse, Inverse]:
@@ -767,6 +809,26 @@ def uneven_sheet(rng: random.Random, n: int) -> list[float]:
     return [number(i, j) for i in range(n) for j in range(n)]
 
 
+def any_sheet(rng: random.Random, n: int) -> list[float]:
+    """A sheet of reading 1 that may be accepted or refused with any number from 6 to 10."""
+    sheet = uneven_sheet(rng, n) if rng.random() < 0.4 else random_sheet(rng, LEAVING_RATES, n, random_style(rng))
+    if rng.random() < 0.3:
+        return [x if rng.random() < 0.3 else random_zero(rng) for x in sheet]
+    if rng.random() < 0.3:
+        sheet[rng.randrange(n * n)] = rng.choice([math.nan, math.inf, 1.0, -1.0, 2.0 ** -1074, -2.0 ** -1074])
+    return sheet
+
+
+def among_idle(rng: random.Random, n: int, sheet: Sequence[float], total: int) -> tuple[list[int], list[float]]:
+    """A sheet of n stages among idle ones, so many in all: where its own stages come to stand, in their order,
+    and the numbers."""
+    live = sorted(rng.sample(range(total), n))
+    wide = [random_zero(rng) for _ in range(total * total)]
+    for place, x in enumerate(sheet):
+        wide[live[place // n] * total + live[place % n]] = x
+    return live, wide
+
+
 def let_out(rng: random.Random, moves: list[list[bool]], positive: list[bool]) -> None:
     """Gives every stage a chain to one stage that leaves."""
     order = list(range(len(positive)))
@@ -886,13 +948,13 @@ class Checks:
 
 
 def test_document_sheets(check: Checks) -> None:
-    """All of "Sheets to try"."""
+    """All of "Sheets to try"; B and D as 02, U3 has them."""
     for name, reading, n, sheet, expected in [
             ("A", 1, 1, [2.0], [0.5]),
-            ("B", 1, 1, [0.0], Refused(9, 1, 0)),
+            ("B", 1, 1, [0.0], [0.0]),
             ("P", 1, 2, P_SHEET, P_TABLE),
             ("C", 1, 2, [0.0, -1.0, -1.0, 0.0], Refused(9, 1, 0)),
-            ("D", 1, 2, [1.0, 0.0, 0.0, 0.0], Refused(9, 2, 0)),
+            ("D", 1, 2, [1.0, 0.0, 0.0, 0.0], [1.0, 0.0, 0.0, 0.0]),
             ("E", 1, 1, [2.0 ** 1021], [2.0 ** -1021]),
             ("F", 1, 1, [2.0 ** 1022], Refused(10, 0, 0)),
             ("G", 2, 1, [0.0], Refused(7, 1, 1)),
@@ -918,7 +980,7 @@ def test_order_and_places(check: Checks) -> None:
     check.gives("7 before 8", 1, 2, [1.0, -2.0 ** -1074, 1.0, 1.0], Refused(7, 2, 1))
     check.gives("8 before 9", 1, 2, [0.0, -2.0 ** -1074, 0.0, 0.0], Refused(8, 1, 2))
     check.gives("8 on the diagonal", 2, 2, [1.0, 0.0, 0.0, 2.0 ** -1074], Refused(8, 2, 2))
-    check.gives("9 before 10", 1, 2, [two_to_1022, 0.0, 0.0, 0.0], Refused(9, 2, 0))
+    check.gives("9 before 10", 1, 2, [two_to_1022, -1.0, 0.0, 0.0], Refused(9, 2, 0))
     check.gives("infinite is 6", 1, 2, [1.0, 0.0, 0.0, INF], Refused(6, 2, 2))
     check.gives("-infinite is 6", 2, 1, [-INF], Refused(6, 1, 1))
     check.gives("negative diagonal", 1, 2, [1.0, 0.0, 0.0, -1.0], Refused(7, 2, 2))
@@ -945,7 +1007,7 @@ def test_order_and_places(check: Checks) -> None:
 
 def test_zeros(check: Checks) -> None:
     """A zero of either sign counts as plus zero, and a table's zeros are plus zero."""
-    check.gives("minus zero, leaving rate", 1, 1, [-0.0], Refused(9, 1, 0))
+    check.gives("minus zero, leaving rate", 1, 2, [-0.0, -1.0, -1.0, -0.0], Refused(9, 1, 0))
     check.gives("minus zero, margin", 2, 2, [1.0, 0.0, 0.0, -0.0], Refused(7, 2, 2))
     check.gives("P with minus zero", 1, 2, [1.0, -1.0, -1.0, -0.0], P_TABLE)
     for zero in (0.0, -0.0):
@@ -1079,32 +1141,36 @@ class Ranged(float):
 
 
 def literal_steps(n: int, sheet: Sequence[float], columns: Sequence[int], number: type[float]) -> list[float]:
-    """Document 01's steps for leaving rates word by word: stages from 1, b as a table with these columns
-    alone.  With `Ranged` for number each step has its range test, with `float` none has."""
-    places = range(1, n + 1)
+    """Document 01's steps for leaving rates word by word, under the stages' own numbers from 1, with b as a
+    table with these columns alone and idle stages passed over.  With `Ranged` for number each step has its range
+    test, with `float` none has."""
+    idle = {i for i in range(1, n + 1) if not any(sheet[(i - 1) * n:i * n]) and not any(sheet[i - 1::n])}
+    places = [i for i in range(1, n + 1) if i not in idle]
     t = {(i, j): number(0.0 - sheet[(i - 1) * n + j - 1]) for i in places for j in places if i != j}
     s = {i: number(sheet[(i - 1) * n + i - 1] + 0.0) for i in places}
     b = {(i, j): number(i == j) for i in places for j in columns}
     p: dict[int, float] = {}
     for k in places:
+        later = [i for i in places if i > k]
         p[k] = s[k]
-        for j in range(k + 1, n + 1):
+        for j in later:
             p[k] = p[k] + t[k, j]
-        for i in range(k + 1, n + 1):
+        for i in later:
             m = t[i, k] / p[k]
             s[i] = s[i] + m * s[k]
-            for j in range(k + 1, n + 1):
+            for j in later:
                 if j != i:
                     t[i, j] = t[i, j] + m * t[k, j]
-            for j in range(1, k + 1):
-                if j in columns:
-                    b[i, j] = b[i, j] + m * b[k, j]
-    for k in range(n, 1, -1):
-        for i in range(1, k):
-            m = t[i, k] / p[k]
             for j in columns:
-                b[i, j] = b[i, j] + m * b[k, j]
-    return [b[i, j] / p[i] for i in places for j in columns]
+                if j <= k:
+                    b[i, j] = b[i, j] + m * b[k, j]
+    for k in reversed(places):
+        for i in places:
+            if i < k:
+                m = t[i, k] / p[k]
+                for j in columns:
+                    b[i, j] = b[i, j] + m * b[k, j]
+    return [0.0 if i in idle else b[i, j] / p[i] for i in range(1, n + 1) for j in columns]
 
 
 def test_literal_steps(check: Checks, rng: random.Random) -> None:
@@ -1153,7 +1219,7 @@ def test_column_questions(check: Checks) -> None:
             ("6 before 7", [5.0, 1.0, NAN, 1.0], Refused(6, 2, 1)),
             ("7 before 8", [1.0, -2.0 ** -1074, 1.0, 1.0], Refused(7, 2, 1)),
             ("8 before 9", [0.0, -2.0 ** -1074, 0.0, 0.0], Refused(8, 1, 2)),
-            ("9 before 10", [2.0 ** 1022, 0.0, 0.0, 0.0], Refused(9, 2, 0))]:
+            ("9 before 10", [2.0 ** 1022, -1.0, 0.0, 0.0], Refused(9, 2, 0))]:
         for stage in (1, 2):
             check.column(f"{what}, column {stage}", 2, sheet, stage, expected)
 
@@ -1218,13 +1284,14 @@ def check_columns(check: Checks, n: int, sheet: list[float], seen: PartlyInRange
 
 
 def test_random_columns(check: Checks, rng: random.Random, long: bool) -> None:
-    """Random sheets, with rates so far apart that the table is often out of range and some columns are not,
-    and sheets at the edge of the range of one column."""
+    """Random sheets, with rates so far apart that the table is often out of range and some columns are not, often
+    with idle stages, and sheets at the edge of the range of one column."""
     seen = PartlyInRange()
     for at in range(1500 if long else 300):
         n = rng.randint(1, 7)
         sheet = uneven_sheet(rng, n) if at % 3 else random_sheet(rng, LEAVING_RATES, n, random_style(rng))
-        check_columns(check, n, sheet, seen)
+        total = n + rng.choice([0, 0, 1, 3])
+        check_columns(check, total, among_idle(rng, n, sheet, total)[1], seen)
     for n in range(8, LIMIT + 1, 1 if long else 6):
         check_columns(check, n, uneven_sheet(rng, n), seen)
     edges = 0
@@ -1245,7 +1312,8 @@ def leads_out(moves: list[list[bool]], leaves: list[bool], i: int, chain: tuple[
 
 
 def test_trapped(check: Checks, rng: random.Random) -> None:
-    """Question 9 against every chain: all patterns up to n = 3, random ones up to n = 6."""
+    """Question 9 against every chain: all patterns up to n = 3, random ones up to n = 6.  A stage that nothing
+    is present of is idle."""
     for n in (1, 2, 3, 4, 5, 6):
         patterns = range(2 ** (n * n)) if n <= 3 else (rng.getrandbits(n * n) & rng.getrandbits(n * n)
                                                        for _ in range(400))
@@ -1254,12 +1322,89 @@ def test_trapped(check: Checks, rng: random.Random) -> None:
             moves = [[i != j and present[i * n + j] for j in range(n)] for i in range(n)]
             leaves = [present[i * n + i] for i in range(n)]
             sheet = [(1.0 if p % (n + 1) == 0 else -1.0) if present[p] else 0.0 for p in range(n * n)]
-            trapped = [i + 1 for i in range(n) if not leads_out(moves, leaves, i)]
+            live = [i for i in range(n) if any(present[i * n + j] or present[j * n + i] for j in range(n))]
+            trapped = [i + 1 for i in live if not leads_out(moves, leaves, i)]
             got = table(1, n, sheet, n * n)
             if trapped:
                 check.equal(f"trapped, {sheet}", got, Refused(9, trapped[0], 0))
             else:
                 check.true(f"not trapped, {sheet}", isinstance(got, Table))
+                on_diagonal = [i for i in range(n) if got.entries[i * n + i] != 0.0]
+                check.equal("zero on the diagonal where idle and nowhere else", on_diagonal, live)
+
+
+def test_idle(check: Checks) -> None:
+    """Idle stages (02, U3): the cases of the papers, and sheets made by hand."""
+    p, zeros = P_SHEET, [0.0, -0.0, 0.0]
+    for what, n, sheet, expected in [
+            ("one idle stage", 1, [-0.0], [0.0]),
+            ("only idle stages", 3, zeros * 3, [0.0] * 9),
+            ("P after an idle stage", 3, [*zeros, -0.0, *p[:2], 0.0, *p[2:]],
+             [0.0, 0.0, 0.0, 0.0, 1.0, 1.0, 0.0, 1.0, 2.0]),
+            ("P around an idle stage", 3, [1.0, -0.0, -1.0, *zeros, -1.0, 0.0, -0.0],
+             [1.0, 0.0, 1.0, 0.0, 0.0, 0.0, 1.0, 0.0, 2.0]),
+            ("P before an idle stage", 3, [*p[:2], 0.0, *p[2:], -0.0, *zeros],
+             [1.0, 1.0, 0.0, 1.0, 2.0, 0.0, 0.0, 0.0, 0.0]),
+            ("a stage that is moved to and has no way out", 2, [1.0, -1.0, 0.0, 0.0], Refused(9, 2)),
+            ("a stage that is not moved to and has a way out", 2, [0.0, -1.0, 0.0, 1.0], [1.0, 1.0, 0.0, 1.0]),
+            ("a leaving rate and no move", 2, [4.0, -0.0, 0.0, 2.0], [0.25, 0.0, 0.0, 0.5]),
+            ("two stages that move to each other", 2, [0.0, -1.0, -1.0, 0.0], Refused(9, 1)),
+            ("trapped after an idle stage", 3, [*zeros, 0.0, 0.0, -1.0, 0.0, -1.0, 0.0], Refused(9, 2)),
+            ("9 before 10 beside an idle stage", 3, [*zeros, 0.0, 2.0 ** 1022, -1.0, *zeros], Refused(9, 3)),
+            ("10 beside an idle stage", 2, [0.0, 0.0, 0.0, 2.0 ** 1022], Refused(10)),
+            ("6 in a row of zeros", 2, [0.0, NAN, 0.0, 0.0], Refused(6, 1, 2)),
+            ("7 in a row of zeros", 2, [0.0, 0.0, 1.0, 0.0], Refused(7, 2, 1))]:
+        check.gives(what, LEAVING_RATES, n, sheet, expected)
+    many = table(LEAVING_RATES, LIMIT, [-0.0] * 1024, 1024)
+    check.equal("32 idle stages", (words_of(many.entries), many.allowance), (["0" * 16] * 1024, 131072))
+    check.gives("margins have no idle stages", MARGINS, 2, [1.0, 0.0, 0.0, 0.0], Refused(7, 2, 2))
+    check.column("an idle stage beside a last division out of range", 2, [0.0, 0.0, 0.0, 2.0 ** 1022], 1, [0.0, 0.0])
+    check.column("that division", 2, [0.0, 0.0, 0.0, 2.0 ** 1022], 2, Refused(10))
+    for stage in (1, 2, 3):
+        check.column("an idle stage beside a pivot that overflows", 3,
+                     [0.0, 0.0, 0.0, 0.0, LARGEST, -LARGEST, 0.0, 0.0, 1.0], stage, Refused(10))
+
+
+def among_others(refusal: Refused, live: Sequence[int]) -> Refused:
+    """A refusal of a sheet, as the sheet has it whose stages these are: the number stays, the place moves."""
+    own = [0, *(i + 1 for i in live)]
+    return Refused(refusal.number, own[refusal.row], own[refusal.column])
+
+
+def check_among_idle(check: Checks, rng: random.Random, n: int, sheet: list[float],
+                     total: int) -> Union[Table, Refused]:
+    """A sheet with idle stages put in anywhere: no bit of an entry and no refusal's number changes, the new rows
+    and columns are plus zero, and the column of an idle stage takes the steps that serve every column.  The
+    answer is handed back."""
+    live, wide = among_idle(rng, n, sheet, total)
+    alone, got = table(LEAVING_RATES, n, sheet, n * n), table(LEAVING_RATES, total, wide, total * total)
+    if isinstance(alone, Refused):
+        expected = among_others(alone, live)
+    else:
+        own = {live[place // n] * total + live[place % n]: x for place, x in enumerate(alone.entries)}
+        expected = [own.get(place, 0.0) for place in range(total * total)]
+    check.equal(f"{sheet} among idle stages", words_of(got.entries if isinstance(got, Table) else got),
+                words_of(expected))
+    i, j = rng.randrange(total), rng.randrange(total)
+    one = entry(LEAVING_RATES, total, wide, i + 1, j + 1)
+    check.equal(f"entry ({i + 1}, {j + 1}) of {wide}", words_of([one.value] if isinstance(one, Seconds) else one),
+                words_of(expected if isinstance(expected, Refused) else [expected[i * total + j]]))
+    for stage in range(1, total + 1) if total < 12 else rng.sample(range(1, total + 1), 3):
+        check.column(f"column {stage} of {wide}", total, wide, stage, expected_among_idle(n, sheet, live, total, stage))
+    return got
+
+
+def expected_among_idle(n: int, sheet: list[float], live: Sequence[int], total: int,
+                        stage: int) -> Union[Refused, list[float]]:
+    """The column of a stage of that sheet, by the sheet without the idle stages."""
+    if stage - 1 in live:
+        alone = column(LEAVING_RATES, n, sheet, live.index(stage - 1) + 1, n)
+    else:
+        steps = ask_numbers(LEAVING_RATES, n, sheet) or literal_answer(n, sheet, [])    # with no column of b
+        alone = steps if isinstance(steps, Refused) else Column([0.0] * n, 0)
+    if isinstance(alone, Refused):
+        return among_others(alone, live)
+    return [alone.entries[live.index(i)] if i in live else 0.0 for i in range(total)]
 
 
 def changed(data: bytes, at: int, form: str, value: int) -> bytes:
@@ -1342,12 +1487,16 @@ def test_dwell(check: Checks) -> None:
     check.equal("dwell of I", dwell(make_file(2, 2, [2.0, -0.0, -1.0, 4.0])),
                 "seconds 2 96\n1 1 3fe0000000000000\n1 2 0000000000000000\n"
                 "2 1 3fc0000000000000\n2 2 3fd0000000000000\n")
+    check.equal("dwell of B", dwell(make_file(1, 1, [0.0])), "seconds 1 4\n1 1 0000000000000000\n")
+    check.equal("dwell of D", dwell(make_file(1, 2, [1.0, -0.0, 0.0, -0.0])),
+                "seconds 2 32\n1 1 3ff0000000000000\n1 2 0000000000000000\n"
+                "2 1 0000000000000000\n2 2 0000000000000000\n")
     longest = make_file(1, 32, [2.0 if i == j else 0.0 for i in range(32) for j in range(32)])
     lines = dwell(longest).split("\n")
     check.equal("dwell of a longest file", (lines[0], lines[33], lines[1024:]),
                 ("seconds 32 131072", "2 1 0000000000000000", ["32 32 3fe0000000000000", ""]))
     for what, data, line in [
-            ("nothing", b"", "11 0 0"), ("B", make_file(1, 1, [0.0]), "9 1 0"),
+            ("nothing", b"", "11 0 0"), ("a way in and none out", make_file(1, 2, [1.0, -1.0, 0.0, 0.0]), "9 2 0"),
             ("C", make_file(1, 2, [0.0, -1.0, -1.0, 0.0]), "9 1 0"), ("F", make_file(1, 1, [2.0 ** 1022]), "10 0 0"),
             ("G", make_file(2, 1, [0.0]), "7 1 1"), ("J", make_file(1, 2, [1.0, NAN, 5.0, 1.0]), "6 1 2"),
             ("a signalling NaN", make_file_words(1, 1, [0x7ff0000000000001]), "6 1 1"),
@@ -1390,8 +1539,9 @@ def test_exact_side(check: Checks, rng: random.Random) -> None:
 
 @dataclass
 class Worst:
-    """The largest errors seen for one reading."""
+    """The largest errors seen for one kind of sheets."""
     reading: int
+    name: str
     accepted: int = 0
     out_of_range: int = 0
     edges: int = 0
@@ -1404,8 +1554,7 @@ class Worst:
         self.of_allowance = max(self.of_allowance, (max(error.allowances for error in errors), n))
 
     def line(self) -> str:
-        name = "leaving rates" if self.reading == LEAVING_RATES else "margins"
-        return (f"{name}: {self.accepted} random sheets accepted ({self.edges} at the edge of the range), "
+        return (f"{self.name}: {self.accepted} random sheets accepted ({self.edges} at the edge of the range), "
                 f"{self.out_of_range} out of range; largest error {self.per_stage[0]:.3f}·n roundings "
                 f"(n = {self.per_stage[1]}), {self.of_allowance[0]:.4f} of the allowance "
                 f"(n = {self.of_allowance[1]})")
@@ -1428,8 +1577,8 @@ def check_accuracy(check: Checks, worst: Worst, n: int, sheet: list[float]) -> b
 
 def test_random_sheets(check: Checks, rng: random.Random, long: bool) -> None:
     """Random sheets of both readings against the exact inverse, with sheets at the edge of the range."""
-    for reading in (LEAVING_RATES, MARGINS):
-        worst = Worst(reading)
+    for reading, name in ((LEAVING_RATES, "leaving rates"), (MARGINS, "margins")):
+        worst = Worst(reading, name)
         for _ in range(4000 if long else 700):
             n = rng.randint(1, 7)
             check_accuracy(check, worst, n, random_sheet(rng, reading, n, random_style(rng)))
@@ -1454,6 +1603,43 @@ def test_random_sheets(check: Checks, rng: random.Random, long: bool) -> None:
         print(worst.line(), flush=True)
 
 
+def check_exact_among_idle(check: Checks, rng: random.Random, worst: Worst, n: int, widest: int, total: int) -> None:
+    """A random sheet among idle stages keeps the accuracy rule, also at the edge of the range.  The rule's exact
+    inverse is that of the sheet without them, and zero elsewhere; so is the table, by its bits."""
+    sheet = random_sheet(rng, LEAVING_RATES, n, random_style(rng, widest))
+    live, wide = among_idle(rng, n, sheet, total)
+    inverse, of_all = exact_bounds(LEAVING_RATES, n, sheet)[0], exact_bounds(LEAVING_RATES, total, wide)[0]
+    check.equal("inverse over the other stages", [[of_all[i][j] for j in live] for i in live], inverse)
+    zero = [(i, j) for i in range(total) for j in range(total) if i not in live or j not in live]
+    check.true("zero in idle rows and columns", all(of_all[i][j][0] == 0 for i, j in zero))
+    pair = edge_pair(rng, LEAVING_RATES, total, wide) if total < 9 else None
+    worst.edges += pair is not None
+    for numbers in [wide, *(pair or ())]:
+        if check_accuracy(check, worst, total, numbers):
+            entries = table(LEAVING_RATES, total, numbers, total * total).entries
+            check.true("plus zero in idle rows and columns", all(bits_of(entries[i * total + j]) == 0 for i, j in zero))
+
+
+def test_random_idle(check: Checks, rng: random.Random, long: bool) -> None:
+    """Random sheets with idle stages: beside the same sheets without them, and against the exact inverse."""
+    answers: dict[int, int] = {}
+    for _ in range(3000 if long else 600):
+        n = rng.randint(1, 6)
+        got = check_among_idle(check, rng, n, any_sheet(rng, n), n + rng.randint(0, 4))
+        number = got.number if isinstance(got, Refused) else 0
+        answers[number] = answers.get(number, 0) + 1
+    check.true(f"every answer came up: {answers}", set(answers) == {0, 6, 7, 8, 9, 10} and min(answers.values()) > 5)
+    for n in range(1, LIMIT, 1 if long else 6):
+        check_among_idle(check, rng, n, random_sheet(rng, LEAVING_RATES, n, random_style(rng, 30)), LIMIT)
+    worst = Worst(LEAVING_RATES, "leaving rates with idle stages")
+    for _ in range(1000 if long else 150):
+        n = rng.randint(1, 5)
+        check_exact_among_idle(check, rng, worst, n, 300, n + rng.randint(1, 4))
+    for n in range(6, LIMIT, 3 if long else 9):
+        check_exact_among_idle(check, rng, worst, n, 30, LIMIT)
+    print(worst.line(), flush=True)
+
+
 def self_test(long: bool) -> int:
     """Runs every check; the exit status."""
     check, rng, start = Checks(), random.Random(20240101), time.monotonic()
@@ -1468,12 +1654,14 @@ def self_test(long: bool) -> int:
         test_column_questions(check)
         test_column_range(check)
         test_trapped(check, rng)
+        test_idle(check)
         test_file(check, rng)
         test_saving(check, rng)
         test_dwell(check)
         test_exact_side(check, rng)
         test_random_sheets(check, rng, long)
         test_random_columns(check, rng, long)
+        test_random_idle(check, rng, long)
     except Failed as failure:
         print(f"FAILED after {check.count} checks: {failure}")
         return 1

@@ -530,14 +530,22 @@ def read_entry(source: str, lines: Sequence[str], n: int, place: int) -> float:
 
 
 def table_text(table: Table, names: Sequence[str], hexadecimal: bool) -> str:
-    """The table, aligned, with a line before that says what it is and one after on its accuracy."""
+    """The table, aligned, with a line before that says what it is, and after it one on idle stages, if it has
+    any, and one on its accuracy."""
     texts = [exact(number) if hexadecimal else shortest(number) for number in table.numbers]
     blocks = [["", *names]]
     blocks += [[name, *align(texts[j::table.n])] for j, name in enumerate(names)]
     columns = [pad(block) for block in blocks]
     lines = ["  ".join(cells).rstrip() for cells in zip(*columns)]
     return "\n".join(["Seconds at each stage (columns) for a request that enters at the stage on the left:", "",
-                      *lines, "", accuracy_line(table.allowance)]) + "\n"
+                      *lines, "", *idle_lines(table, names), accuracy_line(table.allowance)]) + "\n"
+
+
+def idle_lines(table: Table, names: Sequence[str]) -> list[str]:
+    """A line that names the idle stages, if there are any: no other stage has a zero on the diagonal."""
+    idle = [quote(name) for i, name in enumerate(names) if table.numbers[i * table.n + i] == 0.0]
+    where = "Its row and column are zero." if len(idle) == 1 else "Their rows and columns are zero."
+    return [f"Idle, without any rate or leaving rate: {', '.join(idle)}. {where}"] if idle else []
 
 
 def align(texts: Sequence[str]) -> list[str]:
@@ -627,8 +635,10 @@ begins with # is a comment:
   signer,0.05,,1e-6              an empty cell, a dash or a missing cell at the end is zero
 
 Rates are typed as positive numbers, decimal (0.25, 1e-6) or hexadecimal (0x1p-20), and rounded to the
-nearest binary64 number.  A missing rate or leaving rate is zero; a missing margin is an error.  The
-file is UTF-8 text.  Errors are one line, FILE:LINE: and what is wrong, with exit status 1."""
+nearest binary64 number.  A missing rate or leaving rate is zero; a missing margin is an error.  With
+leaving rates, a stage that has none, and no rate to or from another stage, is idle: it keeps its place,
+and its row and column of the table are zero.  The file is UTF-8 text.  Errors are one line, FILE:LINE:
+and what is wrong, with exit status 1."""
 
 OVERVIEW = """\
 From numbers in a text file or a spreadsheet to a table of seconds:
@@ -722,8 +732,8 @@ def parser() -> argparse.ArgumentParser:
     show.set_defaults(run=run_show)
     table = commands.add_parser("table", help="print dwell's output as an aligned table, or a refusal in words",
                                 description="Prints dwell's output as an aligned table in decimal seconds, the "
-                                            "shortest digits that read back. A refusal becomes a sentence on "
-                                            "standard error with exit status 1.")
+                                            "shortest digits that read back, and names idle stages below it. A "
+                                            "refusal becomes a sentence on standard error with exit status 1.")
     table.add_argument("file", metavar="FILE", nargs="?", default="-",
                        help="what dwell printed; standard input without it or for -")
     table.add_argument("--hex", action="store_true", help="print exact hexadecimal floats (C99) instead")

@@ -114,6 +114,8 @@ SHEETS = [
     Sheet(1, 2, [1.0, 0.0, 0.0, 2.0 ** 1022]), Sheet(2, 2, [3.0, -1.0, 0.0, 1.0]), Sheet(2, 2, [1.0, -5.0, 0.0, 1.0]),
     Sheet(2, 2, [4.0, -3.0, -1.0, 1.0]), Sheet(2, 2, [5.0, 0.0, -3.0, 1.0]), Sheet(2, 2, [SMALLEST, -1.0, 0.0, 1.0]),
     Sheet(2, 3, [1.0, 0.0, -1.0, 0.0, SMALLEST, -1.0, 0.0, 0.0, 1.0]),
+    Sheet(1, 3, [1.0, -0.0, -1.0, 0.0, -0.0, -0.0, -1.0, 0.0, 0.0]), Sheet(1, 2, [1.0, -1.0, 0.0, 0.0]),
+    Sheet(1, 2, [0.0, 0.0, 0.0, 2.0 ** 1022]),
 ]
 
 
@@ -349,6 +351,88 @@ class ColumnTest(HostTest):
         """NaN patterns of every kind are 6."""
         for word in (0x7ff0000000000001, 0x7ff8000000000000, 0xffffffffffffffff, 0xfff0000000000001):
             self.assertEqual(self.column(1, 1, [number_of(word)], 1), (6, 1, 1))
+
+
+class IdleTest(HostTest):
+    """Idle stages: the table, every entry and every column."""
+
+    def every_call(self, n: int, sheet: Sequence[float]) -> Told:
+        """The table of a sheet of reading 1, every entry, which is answered alike, and the report."""
+        answer = self.table(1, n, sheet)
+        for i in range(1, n + 1):
+            for j in range(1, n + 1):
+                self.assertEqual(self.entry(1, n, sheet, i, j), answer)
+        self.report(file_of(Sheet(1, n, list(sheet))))
+        return answer
+
+    def test_documents(self) -> None:
+        """The sheets of the documents; a stage that is moved to, or moves, is not idle."""
+        for n, sheet, expected in [
+                (1, [0.0], (0, 0, 0)), (1, [-0.0], (0, 0, 0)), (2, [1.0, 0.0, 0.0, 0.0], (0, 0, 0)),
+                (2, [0.0, -0.0, -0.0, 1.0], (0, 0, 0)), (2, [1.0, -1.0, 0.0, 0.0], (9, 2, 0)),
+                (2, [0.0, -1.0, -1.0, 0.0], (9, 1, 0)), (2, [0.0, -1.0, 0.0, 1.0], (0, 0, 0)),
+                (3, [0.0, 0.0, 0.0, 0.0, 0.0, -1.0, 0.0, -1.0, 0.0], (9, 2, 0))]:
+            self.assertEqual(self.every_call(n, sheet), expected)
+            self.assertEqual(self.columns(n, sheet), [expected] * n)
+
+    def test_columns_beside_10(self) -> None:
+        """The column of an idle stage takes the steps that serve every column, and no last division that leaves
+        the range; a pivot that overflows is noticed although no later number shows it."""
+        self.assertEqual(self.every_call(2, [0.0, 0.0, 0.0, 2.0 ** 1022]), (10, 0, 0))
+        self.assertEqual(self.columns(2, [0.0, 0.0, 0.0, 2.0 ** 1022]), [(0, 0, 0), (10, 0, 0)])
+        most = reference.LARGEST
+        self.assertEqual(self.columns(3, [0.0, 0.0, 0.0, 0.0, most, -most, 0.0, 0.0, 1.0]), [(10, 0, 0)] * 3)
+        self.assertEqual(self.columns(3, [most, -most, 0.0, 0.0, 1.0, 0.0, 0.0, 0.0, 0.0]), [(10, 0, 0)] * 3)
+
+    def test_only_idle(self) -> None:
+        """Only idle stages, of every number, with zeros of either sign."""
+        for n in range(1, 33):
+            sheet = [reference.random_zero(self.rng) for _ in range(n * n)]
+            self.assertEqual(self.sheet(1, n, sheet), (0, 0, 0))
+            self.assertEqual(self.column(1, n, sheet, self.rng.randint(1, n), n + 2), (0, 0, 0))
+            self.assertEqual(self.table(1, n, sheet, n * n + 5), (0, 0, 0))
+
+    def test_among_others(self) -> None:
+        """Idle stages put in anywhere change no refusal's number, and in the table and columns no other entry."""
+        found = set()
+        for n in [1, 2, 3, 4, 5] * 20:
+            sheet, total = reference.any_sheet(self.rng, n), n + self.rng.randint(1, 3)
+            live, wide = reference.among_idle(self.rng, n, sheet, total)
+            alone, answers = self.table(1, n, sheet), self.columns(total, wide)
+            self.assertEqual(self.every_call(total, wide)[0], alone[0])
+            self.assertEqual([answers[i][0] for i in live], [told[0] for told in self.columns(n, sheet)])
+            found.add(alone[0])
+        self.assertEqual(found, {0, 6, 7, 8, 9, 10})
+
+    def test_many(self) -> None:
+        """32 stages of which one, some or all but one are idle."""
+        for n in (1, 2, 9, 16, 23, 30, 31):
+            sheet = reference.random_sheet(self.rng, 1, n, reference.random_style(self.rng, 3))
+            live, wide = reference.among_idle(self.rng, n, sheet, 32)
+            self.assertEqual(self.sheet(1, 32, wide), self.table(1, n, sheet))
+            self.report(file_of(Sheet(1, 32, wide)))
+            idle = [i for i in range(32) if i not in live]
+            for i in {live[0], live[-1], idle[0], idle[-1]}:
+                self.assertEqual(self.column(1, 32, wide, i + 1), (0, 0, 0))
+
+    def test_nearly_idle(self) -> None:
+        """One number in the row, the column or the diagonal place of a stage that is idle else."""
+        for n in (2, 3, 5, 8) * 10:
+            sheet = reference.random_sheet(self.rng, 1, n - 1, reference.random_style(self.rng, 3))
+            live, wide = reference.among_idle(self.rng, n - 1, sheet, n)
+            idle = next(i for i in range(n) if i not in live)
+            size = self.rng.choice([1.0, SMALLEST, reference.LARGEST])
+            for row, column in ((idle, idle), (idle, self.rng.choice(live)), (self.rng.choice(live), idle)):
+                numbers = list(wide)
+                numbers[row * n + column] = size if row == column else -size
+                answer = self.every_call(n, numbers)
+                self.assertEqual(answer == (9, idle + 1, 0), column == idle and row != idle)
+                self.columns(n, numbers)
+
+    def test_margins(self) -> None:
+        """Margins have no idle stages: a zero on the diagonal is 7, and without moves every stage has its seconds."""
+        self.assertEqual(self.sheet(2, 2, [1.0, 0.0, 0.0, 0.0]), (7, 2, 2))
+        self.assertEqual(self.sheet(2, 2, [1.0, -0.0, 0.0, 4.0]), (0, 0, 0))
 
 
 class FileTest(HostTest):

@@ -233,6 +233,25 @@ def exact_matrix(typed: Typed, exact_of: Callable[[str], Fraction] = value) -> E
     return [[a[i] if i == j else -t[i][j] for j in range(n)] for i in range(n)]
 
 
+def live_stages(typed: Typed) -> list[int]:
+    """The stages that are not idle: with leaving rates those that some number is typed for and is not zero."""
+    if typed.reading == 2:
+        return list(range(len(typed.names)))
+    moving = {i for pair, text in typed.rates.items() if value(text) for i in pair}
+    return sorted(moving | {i for i, text in typed.diagonal.items() if value(text)})
+
+
+def exact_seconds(typed: Typed, exact_of: Callable[[str], Fraction] = value) -> Exact:
+    """The inverse over the stages that are not idle, under their own numbers, and zeros (02, U3)."""
+    n, live, matrix = len(typed.names), live_stages(typed), exact_matrix(typed, exact_of)
+    inverse = exact_inverse([[matrix[i][j] for j in live] for i in live])
+    seconds = [[Fraction(0)] * n for _ in range(n)]
+    for i, row in zip(live, inverse):
+        for j, x in zip(live, row):
+            seconds[i][j] = x
+    return seconds
+
+
 def exact_inverse(matrix: Exact) -> Exact:
     """The inverse over fractions, by Gauss-Jordan elimination."""
     n = len(matrix)
@@ -264,15 +283,22 @@ def digits_of(text: str) -> int:
 def split_table(out: bytes, names: Sequence[str]) -> tuple[str, list[list[str]], list[str]]:
     """The first line of a table, its cells and its lines with numbers; checks the layout."""
     lines = out.decode().split("\n")
-    assert lines[1] == "" and lines[-3] == "" and lines[-1] == "", lines
+    end = 3 + len(names)
+    assert lines[1] == "" and lines[end] == "" and lines[-1] == "" and len(lines) - end in (3, 4), lines
     assert not any(line != line.rstrip() for line in lines), "blanks at the end of a line"
-    heading, rows = lines[2], lines[3:-3]
+    heading, rows = lines[2], lines[3:end]
     assert re.sub(r"\s+", " ", heading).strip() == re.sub(r"\s+", " ", " ".join(names)), heading
     cells = []
     for name, row in zip(names, rows, strict=True):
         assert row.startswith(name + " "), row
         cells.append(row[len(name):].split())
     return lines[0], cells, rows
+
+
+def idle_line(out: bytes) -> str:
+    """What a table says of idle stages below its numbers, nothing without such a line."""
+    last_lines = out.decode().split("\n\n")[-1].split("\n")
+    return last_lines[0] if len(last_lines) == 3 else ""
 
 
 # ==== The tests ====
@@ -631,9 +657,10 @@ class Tables(ToolTest):
             self.assert_shortest(text, number(word))
         self.check_alignment(rows, typed.names)
         allowance = (4 if typed.reading == 1 else 12) * n ** 3
-        exact = exact_inverse(exact_matrix(typed, rounded_value))
+        exact = exact_seconds(typed, rounded_value)
         for place, word in enumerate(words):
             self.assertTrue(is_near(number(word), exact[place // n][place % n], allowance))
+        self.assertEqual(idle_line(out) != "", len(live_stages(typed)) < n)
         self.check_accuracy_line(out, allowance)
         self.check_hexadecimal(printed, typed.names, words)
         return [number(word) for word in words]
@@ -673,6 +700,16 @@ class Tables(ToolTest):
             for reading in (1, 2):
                 accepted += self.check_table(random_typed(rng, reading, n, random_rate)) is not None
         self.assertGreater(accepted, 8)
+
+    def test_idle_stages(self) -> None:
+        """Random sheets, each with one to three idle stages at any places."""
+        rng = random.Random(8)
+        for n in (1, 2, 2, 3, 3, 4, 5, 6):
+            typed = random_typed(rng, 1, n, random_rate)
+            left = set(range(n)) - set(rng.sample(range(n), rng.randint(1, min(n, 3))))
+            rates = {pair: text for pair, text in typed.rates.items() if left.issuperset(pair)}
+            typed = typed._replace(rates=rates, diagonal={i: random_rate(rng) for i in left})
+            self.assertIsNotNone(self.check_table(typed))
 
     def test_thirty_two_stages(self) -> None:
         """A line of 32 stages with a loop and leaving rates of a millionth."""
@@ -719,6 +756,74 @@ class Tables(ToolTest):
         self.assertEqual(self.bad("table", stdin=b"seconds 1 4\n\xff"), "<stdin>:2: this is not UTF-8 text")
 
 
+class Idle(ToolTest):
+    """Stages without any rate, from a text to the table."""
+
+    LINES = "reading leaving-rates\nstages a gluing b packing\na -> b 1\nb -> a 1\na leaves 1\n"
+    CELLS = [["1", "0", "1", "0"], ["0"] * 4, ["1", "0", "2", "0"], ["0"] * 4]
+
+    def table(self, text: str, *options: str) -> bytes:
+        """The table of a text with its names."""
+        return self.good("table", *options, "--names", "line.txt", stdin=dwell(self.make(text)))
+
+    def test_lines(self) -> None:
+        """Sheet P with two idle stages: the table, and the line that names them."""
+        out = self.table(self.LINES)
+        self.assertEqual(split_table(out, ["a", "gluing", "b", "packing"])[1], self.CELLS)
+        self.assertEqual(idle_line(out), "Idle, without any rate or leaving rate: gluing, packing. "
+                                         "Their rows and columns are zero.")
+        self.assertEqual(idle_line(self.table(self.LINES, "--hex")), idle_line(out))
+        zeros = "gluing -> a 0\nb -> packing 0.0\ngluing leaves 0\npacking leaves -0\n"
+        self.assertEqual(self.table(self.LINES + zeros), out)
+
+    def test_one(self) -> None:
+        """One idle stage; names that stand in quotes in a text do so in the line; none without an idle stage."""
+        out = self.table('reading leaving-rates\nstages a "glue, then press"\na leaves 4\n')
+        self.assertEqual(split_table(out, ["a", "glue, then press"])[1], [["0.25", "0"], ["0", "0"]])
+        self.assertEqual(idle_line(out), 'Idle, without any rate or leaving rate: "glue, then press". '
+                                         "Its row and column are zero.")
+        self.assertEqual(idle_line(self.table("reading leaving-rates\nstages a b\na leaves 4\nb -> a 1\n")), "")
+        self.assertEqual(idle_line(self.table("reading margins\nstages a b\na margin 4\nb margin 1\n")), "")
+
+    def test_all(self) -> None:
+        """Only idle stages, without names."""
+        printed = dwell(packed(1, 3, [0, 1 << 63, 0] * 3))
+        out = self.good("table", stdin=printed)
+        self.assertEqual(split_table(out, ["s1", "s2", "s3"])[1], [["0"] * 3] * 3)
+        self.assertEqual(idle_line(out), "Idle, without any rate or leaving rate: s1, s2, s3. "
+                                         "Their rows and columns are zero.")
+
+    def test_matrix(self) -> None:
+        """The row of an idle stage has empty cells, dashes, zeros or no cells at all, and is not left out."""
+        data = self.make(self.LINES)
+        for row in ("gluing,,,,,", "gluing,-,-,-,-,-", "gluing,0,0,0,0,0", "gluing", "gluing,,-,0"):
+            text = f"from,a,gluing,b,packing,leaves\na,,,1,,1\n{row}\nb,1,,,,\npacking\n"
+            self.assertEqual(self.make(text, "line.csv"), data, text)
+            self.assertEqual(self.make(text.replace(",", ";"), "line.csv"), data, text)
+        out = self.good("table", "--names", "line.csv", stdin=dwell(data))
+        self.assertEqual(split_table(out, ["a", "gluing", "b", "packing"])[1], self.CELLS)
+        self.assertEqual(self.bad("make", self.write("line.csv", "from,a,gluing,leaves\na,,,1\n")),
+                         "line.csv:1: stage 'gluing' has no row")
+
+    def test_show(self) -> None:
+        """A sheet file keeps its idle stages, which have no line of their own in the text."""
+        data = self.make(self.LINES)
+        shown = self.good("show", "-", "--names", "line.txt", stdin=data).decode()
+        self.assertEqual(shown, "reading leaving-rates\nstages a gluing b packing\n\n"
+                                "a -> b 1\na leaves 1\n\nb -> a 1\n")
+        self.assertEqual(self.make(shown), data)
+        only = packed(1, 32, [0] * 1024)
+        self.assertEqual(self.make(self.good("show", "-", stdin=only)), only)
+
+    def test_nearly_idle(self) -> None:
+        """A stage that is moved to and has no way out is trapped; one with a leaving rate alone is like any other."""
+        moved_to = self.make("reading leaving-rates\nstages a b\na -> b 1\na leaves 1\n")
+        self.assertIn("refused (9 at row 2): a request at stage 2 never gets out",
+                      self.bad("table", stdin=dwell(moved_to)))
+        out = self.table("reading leaving-rates\nstages a b\na leaves 1\nb leaves 2\n")
+        self.assertEqual((split_table(out, ["a", "b"])[1], idle_line(out)), ([["1", "0"], ["0", "0.5"]], ""))
+
+
 class Refusals(ToolTest):
     """Refusals in words."""
 
@@ -759,12 +864,12 @@ class Refusals(ToolTest):
 
     def test_through_dwell(self) -> None:
         """Sheets that dwell refuses, through the program."""
-        one, sheet_a = nearest(Fraction(1)), packed(1, 1, [nearest(Fraction(2))])
+        one, move, sheet_a = nearest(Fraction(1)), nearest(Fraction(-1)), packed(1, 1, [nearest(Fraction(2))])
         for data, start in [
                 (packed(1, 2, [one, 0x7ff8000000000000, one, one]), "refused (6 at row 1, column 2): the rate from"),
                 (packed(2, 1, [0]), "refused (7 at row 1, column 1): the leaving rate or margin of"),
                 (packed(1, 2, [one, 0, 0x8000000000000001, one]), "refused (8 at row 2, column 1): the rate from"),
-                (packed(1, 2, [one, 0, 0, 0]), "refused (9 at row 2): a request at stage 2 (key ceremony) never"),
+                (packed(1, 2, [one, move, 0, 0]), "refused (9 at row 2): a request at stage 2 (key ceremony) never"),
                 (packed(1, 1, [nearest(Fraction(2) ** 1022)]), "refused (10): "), (b"", "refused (11): "),
                 (sheet_a[:-1], "refused (11 at row 1): "), (b"\4\0\0\0\1\0\3\0\1\0", "refused (12): "),
                 (sheet_a[:14] + b"\3" + sheet_a[15:], "refused (13 at row 1): "),
@@ -800,7 +905,8 @@ class Garbage(ToolTest):
         rng = random.Random(6)
         pieces = [b"", b"\n", b'"', b"#", b",", b";", b"\t", b"->", b" ", b"-", b"0", b"1e9", b"\xff", b"\0", b"\r",
                   b"stages", b"reading", b"leaves", b"\xc2\xa0", b"\xe2\x80\xa8", b"\x0b", b"nan", b"a b"]
-        texts = [(ROOT / "examples" / name).read_bytes() for name in ("signing.txt", "panel.txt", "cards.csv")]
+        texts = [(ROOT / "examples" / name).read_bytes()
+                 for name in ("signing.txt", "panel.txt", "retired.txt", "cards.csv")]
         short = [re.sub(rb"(?m)^.?#.*\n", b"", text) for text in texts]
         for _ in range(800):
             text = self.changed(rng, rng.choice(short), pieces)
@@ -899,6 +1005,23 @@ class Examples(ToolTest):
         for row, exact_row in zip(self.seconds("cards.csv", names), exact, strict=True):
             for x, y in zip(row, exact_row, strict=True):
                 self.assertLessEqual(abs(x - y), y / 10 ** 15)
+
+    def test_retired(self) -> None:
+        """Two idle stages; the other numbers are those of the sheet without them."""
+        path = ROOT / "examples" / "retired.txt"
+        typed = read_lines(path)
+        self.assertEqual([(i + 1, name) for i, name in enumerate(typed.names) if i not in live_stages(typed)],
+                         [(2, "gluing"), (5, "packing")])
+        rows, exact = self.seconds("retired.txt", typed.names), exact_seconds(typed)
+        for row, exact_row in zip(rows, exact, strict=True):
+            for x, y in zip(row, exact_row, strict=True):
+                self.assertLessEqual(abs(x - y), y / 10 ** 15)
+        self.assertEqual(value(typed.diagonal[0]) * 20, value(typed.rates[0, 2]))
+        short = path.read_text().replace("gluing ", "").replace(" packing\n", "\n")
+        alone = self.good("table", "--names", "line.txt", stdin=dwell(self.make(short)))
+        cells = split_table(alone, ["cutting", "signing", "shipping"])[1]
+        self.assertEqual([[value(text) for text in row] for row in cells],
+                         [[rows[i][j] for j in (0, 2, 3)] for i in (0, 2, 3)])
 
     def test_walk_through(self) -> None:
         """Each command of the walk-through prints what stands below it."""

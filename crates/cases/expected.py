@@ -11,6 +11,8 @@ Files for both readers: cut at every byte, a byte of a record's head changed, le
 Sheets of every n for both writers, NaN patterns among them, each loaded again; calls that saving refuses.
 One column: its questions in order, every column of document 01's sheets of reading 1, and random sheets with every
 n from 1 to 32, among them many whose table is out of range while the column is not.
+Idle stages: first, between others, last, many and alone, with zeros of either sign; stages that are nearly idle; the
+entries and columns of an idle stage, and those beside it.
 Before an accepted table or column is written it is compared with the exact inverse by the accuracy rule.
 """
 from __future__ import annotations
@@ -26,8 +28,8 @@ sys.path.insert(0, str(Path(__file__).resolve().parents[2] / "tools"))
 sys.dont_write_bytecode = True
 
 from reference import (INF, LARGEST, LIMIT, NAN, P_SHEET, SHEET_ROW, Column, Loaded, Refused, Saved,  # noqa: E402
-                       Style, Table, accuracy, bits_of, column, column_accuracy, dwell, edge_pair, entry, load,
-                       make_file, make_file_words, number_of, random_sheet, random_style, range_facts, record,
+                       Style, Table, accuracy, among_idle, bits_of, column, column_accuracy, dwell, edge_pair, entry,
+                       load, make_file, make_file_words, number_of, random_sheet, random_style, range_facts, record,
                        save, sheet_parts, table, table_of_stream, uneven_sheet, word_of)
 
 Sheet = tuple[int, int, list[float]]  # reading, n, numbers
@@ -428,6 +430,40 @@ def columns(rng: random.Random) -> Iterator[Case]:
         yield column_case(1, one.n, one.sheet, one.stage, one.n + at % 3)
 
 
+# ==== Idle stages ====
+
+AROUND_IDLE = [1.0, -0.0, -1.0, 0.0, -0.0, -0.0, -1.0, 0.0, 0.0]    # P with an idle stage between its two
+IDLE_AND_RANGE = [0.0, 0.0, 0.0, 2.0 ** 1022]                       # only the column of the idle stage is in range
+IDLE_AND_PIVOT = [0.0, 0.0, 0.0, 0.0, LARGEST, -LARGEST, 0.0, 0.0, 1.0]     # a pivot overflows, so no column is
+
+IDLE: list[Sheet] = [
+    (1, 3, [-0.0, 0.0, -0.0, 0.0, 1.0, -1.0, -0.0, -1.0, -0.0]), (1, 3, AROUND_IDLE),
+    (1, 3, [1.0, -1.0, -0.0, -1.0, 0.0, 0.0, 0.0, -0.0, -0.0]),
+    (1, 2, [1.0, -1.0, 0.0, 0.0]), (1, 2, [0.0, -1.0, 0.0, 1.0]),           # moved to without a way out; not moved to
+    (1, 3, [0.0, -0.0, 0.0, -0.0, 0.25, 0.0, 0.0, -0.0, -0.0]),             # a leaving rate and no move
+    (1, 3, [0.0, 0.0, 0.0, 0.0, 0.0, -1.0, 0.0, -1.0, 0.0]),                # trapped after an idle stage
+    (1, 3, [0.0, 0.0, 0.0, 0.0, 2.0 ** 1022, -1.0, 0.0, 0.0, 0.0]),         # 9 before 10
+    (1, 2, IDLE_AND_RANGE), (1, 3, IDLE_AND_PIVOT),
+    (1, LIMIT, [-0.0 if place % 3 == 0 else 0.0 for place in range(LIMIT * LIMIT)])]
+
+
+def idle_stages(rng: random.Random) -> Iterator[Case]:
+    """Sheets with idle stages by dwell; their tables, entries and columns, each where the answer differs."""
+    live, wide = among_idle(rng, 21, accepted_sheet(rng, 1, 21, STYLES[2])[2], LIMIT)
+    for sheet in [*IDLE, (1, LIMIT, wide)]:
+        yield dwell_case(make_file(*sheet))
+    yield table_case(1, 3, AROUND_IDLE, 11)
+    yield table_case(1, 2, IDLE_AND_RANGE, 4)
+    for i, j in ((1, 3), (1, 2), (2, 3), (2, 2)):       # in no idle row or column, in one, in both
+        yield entry_case(1, 3, AROUND_IDLE, i, j)
+    yield entry_case(1, 2, IDLE_AND_RANGE, 1, 1)
+    idle = next(i for i in range(LIMIT) if i not in live)
+    for n, sheet, stage in [(1, [-0.0], 1), (2, [1.0, -1.0, 0.0, 0.0], 2), (3, AROUND_IDLE, 2), (3, AROUND_IDLE, 3),
+                            (2, IDLE_AND_RANGE, 1), (2, IDLE_AND_RANGE, 2), (3, IDLE_AND_PIVOT, 1),
+                            (LIMIT, wide, idle + 1), (LIMIT, wide, live[-1] + 1)]:
+        yield column_case(1, n, sheet, stage, n + 1)
+
+
 # ==== Files ====
 
 def changed(data: bytes, at: int, new: bytes) -> bytes:
@@ -449,7 +485,8 @@ def damaged(data: bytes, n: int, room: int) -> list[Case]:
 def cases() -> list[Case]:
     one_nan = make_file_words(2, 1, [0xFFF4000012345678])
     return [*(dwell_case(data) for data in inputs()), *calls(), *damaged(make_file(1, 2, P_SHEET), 2, 5),
-            *damaged(one_nan, 1, 5), *saves(random.Random(20260202)), *columns(random.Random(20260303))]
+            *damaged(one_nan, 1, 5), *saves(random.Random(20260202)), *columns(random.Random(20260303)),
+            *idle_stages(random.Random(20260404))]
 
 
 def main(arguments: list[str]) -> int:

@@ -1,102 +1,152 @@
 -- The accuracy rule of document 01, for both readings, and of one column.
 use Prim.Native.Nat.{ℕ, zero, _-_, _*_, _^_, _<_}
+use native.Mathlib.Nat.{mul-le-mul}
 use native.Mathlib.Omega.{arith}
-use mathlib.Core.Bool.{Bool, true, false, _||_}
+use mathlib.Core.Bool.{Bool, true, false, _&&_, _||_}
 use mathlib.Core.List.{List}
 use mathlib.Core.Logic.{_⊎_, inl, inr, ⊎-elim}
-use mathlib.Core.Path.{_≡_, refl, sym, subst}
+use mathlib.Core.Path.{_≡_, refl, sym, ap, _∙_, subst}
 use lib.Dec.{T, eqb, eqb→eq}
 use lib.ListN.{length}
 use lib.Ieee.{Float}
+use lib.Ieee.Bits.{is-true, is-false}
 use lib.Ieee.Fits.{and-l, and-r}
-use Rattle.exact.specs.Systems.{Equations, withRight, Solves, AllOut}
+use borrow.Author.Tests.{eq-eqb, ne-eqb}
+use Rattle.exact.specs.Systems.{Solves}
 use Rattle.exact.specs.Elimination.{Existence}
 use Rattle.exact.proofs.Elimination.{existence}
 use Rattle.exact.proofs.Near.{near-grow}
+use Rattle.exact.proofs.Bools.{and-first, and-second}
+use Rattle.exact.proofs.Cases.{by-bool, by-equal}
 use Rattle.definitions.specs.LeavingRates.{downward, quotient, shared, column}
 use Rattle.definitions.specs.Margins as Margins
-use Rattle.definitions.specs.Sheet.{size, diagonal, system, allowance}
+use Rattle.definitions.specs.Numbers.{units}
+use Rattle.definitions.specs.Compact.{rank}
+use Rattle.definitions.specs.Sheet.{size, diagonal, takesPart, allowance}
 use Rattle.definitions.specs.Matrix.{matrix, everyStage}
-use Rattle.definitions.specs.Table.{entry, everyStepInRange}
+use Rattle.definitions.specs.Table.{liveCount, liveSystem, liveBegun, entry, everyStepInRange}
 use Rattle.definitions.specs.Fractions.{Fraction}
-use Rattle.definitions.specs.Accuracy.{Binary64, Within, OnlyInverse, Accurate, AccurateColumn, AccuracyRule}
-use Rattle.definitions.specs.Column.{columnInput, columnInRange, columnQuestions}
+use Rattle.definitions.specs.Accuracy.{Binary64, Within, OnlyInverse, extended, Accurate, AccurateColumn, AccuracyRule}
+use Rattle.definitions.specs.Column.{columnInput, columnOf, columnInRange, columnQuestions}
 use Rattle.accuracy.specs.ColumnRule.{InverseRule, ColumnRule}
 use Rattle.definitions.specs.Questions.{pass, ask, question1, question2, question3, question4, question10, numberQuestions, tableInput, tableQuestions, Accepted, _then_}
 use Rattle.rounding.specs.Good.{one·units}
-use Rattle.rates_accuracy.specs.LeavingRatesAccuracy.{inUnits, identityColumn, EngineWithin, EngineAccuracy}
-use Rattle.inverse.specs.Reduction.{delta, fraction, EntryReduction, SystemColumns}
+use Rattle.rates_accuracy.specs.LeavingRatesAccuracy.{identityColumn, EngineWithin, EngineAccuracy}
+use Rattle.inverse.specs.Reduction.{delta, Apart, fraction, EntryReduction}
 use Rattle.inverse.specs.ExactRatios.{RatiosExist}
 use Rattle.inverse.specs.RowForms.{InUnits}
 use Rattle.inverse.specs.ReducedReadings.{LeavingRatesInverse, MarginsReduced}
 use Rattle.margins_accuracy.specs.MarginsAccuracy.{GoodMargins, sizesInUnits, marginsInUnits, MarginsAccuracy}
 use Rattle.steps.proofs.QuestionLaws.{then-first, then-next, ask-yes}
-use Rattle.rates_accuracy.proofs.Input.{table-numbers, column-numbers, size-is, diagonal-is, input-good, input-positive, input-out}
+use Rattle.rates_accuracy.proofs.Input.{table-numbers, column-numbers, column-stage, size-is, diagonal-is, input-positive}
+use Rattle.rates_accuracy.proofs.CompactEquations.{stage}
+use Rattle.rates_accuracy.proofs.LiveSystem.{sheetEquations, size-to-idle, exit-live, sheet-out, live-good, live-out, live-solves}
+use Rattle.steps.proofs.CompactOrder.{rank-below, rank-within, stage-of-rank, listed}
+use Rattle.steps.proofs.LiveStages.{entry-live, entry-idle, column-of-live}
 use Rattle.rates_accuracy.proofs.LeavingRatesRange.{table-shared, table-column}
 use Rattle.rates_accuracy.proofs.LeavingRatesAccuracy.{engine-accuracy}
 use Rattle.inverse.proofs.ExactRatios.{ratios-exist}
-use Rattle.inverse.proofs.Reduction.{entry-reduction}
+use Rattle.inverse.proofs.Reduction.{entry-reduction, zero-within}
 use Rattle.inverse.proofs.ReducedReadings.{leaving-rates-inverse, margins-reduced}
 use Rattle.margins_accuracy.proofs.MarginsAccuracy.{margins-accuracy}
 use Rattle.exact.proofs.Run.{cube}
 
 -- Reading 1: the exact solution of each column exists.
 module _ (n : ℕ) (sheet : List Float) (fit : Binary64 sheet) (e : numberQuestions 1 n sheet ≡ pass) where
-  equations : Equations
-  equations = inUnits (system n sheet) (λ i. zero)
+  abbrev on : ℕ → Bool
+  on = takesPart 1 n sheet
 
-  gets-out : AllOut 0 n equations
-  unfolding equations
-  gets-out = input-out n sheet fit e
+  right : ℕ → ℕ → ℕ
+  right j i = delta i j one·units
 
-  solution : (j : ℕ) → (d : ℕ) × (z : ℕ → ℕ) × (0 < d) × Solves 0 n (withRight equations (λ i. delta i j one·units)) d z
-  unfolding equations Existence
-  solution j = existence 0 n (withRight equations (λ i. delta i j one·units)) (record { out = gets-out .out })
+  solution : (j : ℕ) → (d : ℕ) × (z : ℕ → ℕ) × (0 < d) × Solves 0 n (sheetEquations n sheet (right j)) d z
+  unfolding Existence
+  solution j = existence 0 n (sheetEquations n sheet (right j)) (sheet-out n sheet fit e (right j))
 
   X : ℕ → ℕ → Fraction
   X i j = fraction (solution j .1 i) (solution j .0)
 
-  -- Questions 6 to 9 alone: these solutions are the one inverse.
-  only-inverse : OnlyInverse n everyStage (matrix 1 n sheet) X
-  unfolding LeavingRatesInverse equations system X
-  only-inverse = leaving-rates-inverse n sheet equations (λ j. solution j .0) (λ j. solution j .1) units-of gets-out columns
+  -- Questions 6 to 9 alone: these solutions are the one inverse over the stages that are not idle.
+  only-inverse : OnlyInverse n on (matrix 1 n sheet) X
+  unfolding LeavingRatesInverse Apart X right
+  only-inverse =
+      leaving-rates-inverse n on sheet (sheetEquations n sheet (λ i. zero)) (λ i. units (diagonal n sheet i)) (λ j. solution j .0) (λ j. solution j .1)
+      units-of
+      (λ i s. exit-live n sheet fit e i (is-true (on i) (s .part)))
+      (λ i j s l o. size-to-idle n sheet fit e i j (s .below) l (is-false (on j) o))
+      (sheet-out n sheet fit e (λ i. zero))
+      (record { positive = λ j h. solution j .2; solves = λ j h. solution j .3 })
     where
-      units-of : InUnits n sheet (λ i. equations i .size) (λ i. equations i .exit)
+      units-of : InUnits n sheet (λ i j. units (size n sheet i j)) (λ i. units (diagonal n sheet i))
       units-of = record { size-good = λ i j hi hj o. size-is 1 n sheet fit e i j hi hj o .good; size-units = λ i j hi hj o. refl; diagonal-good = λ i h. diagonal-is 1 n sheet fit e i h .good; diagonal-units = λ i h. refl }
 
-      columns : SystemColumns n equations (λ i. one·units) (λ j. solution j .0) (λ j. solution j .1)
-      columns = record { positive = λ j h. solution j .2; solves = λ j h. solution j .3 }
+  -- The range of the shared steps and of a stage's column: the engine's quotients of that column are near it.
+  module _ (j : ℕ) (hj : j < n) (oj : on j ≡ true)
+      (t : T (shared (liveCount n sheet) (liveBegun n sheet))) (u : T (column (liveCount n sheet) (liveBegun n sheet) (rank on j))) where
+    -- The right side in compact order.
+    right-side : (p : ℕ) → p < rank on n → right j (stage on n p) ≡ identityColumn (rank on j) p
+    unfolding right identityColumn
+    right-side p l =
+        by-equal p (rank on j)
+        (λ s. rw (eq-eqb p (rank on j) s, eq-eqb (stage on n p) j (ap (stage on n) s ∙ stage-of-rank on n j hj oj)))
+        (λ o. rw (ne-eqb p (rank on j) o, ne-eqb (stage on n p) j (λ s. o (sym (listed on n p l .place) ∙ ap (rank on) s))))
 
-  -- The range of the shared steps and of column j's: the engine's quotients of that column are near it.
-  column-within : (j : ℕ) → T (shared n (downward n (system n sheet))) → T (column n (downward n (system n sheet)) j)
-      → (i : ℕ) → i < n → Within (allowance 1 n) (quotient n (downward n (system n sheet)) i j) (X i j)
-  unfolding EngineAccuracy EngineWithin EntryReduction identityColumn equations X allowance
-  column-within j t u i h =
-      let computed =
-      engine-accuracy n j (system n sheet) (input-good 1 n sheet fit e) (input-out n sheet fit e) t u (solution j .0) (solution j .1) (solution j .3) i h in
-      entry-reduction (4 * n ^ 3) (quotient n (downward n (system n sheet)) i j) (solution j .1 i) (solution j .0) (solution j .2) (computed .good)
-      (near-grow {e = 2 * (n * n * n)} (omega (arith, cube n)) (computed .near))
+    quotient-within : (i : ℕ) → i < n → on i ≡ true → Within (allowance 1 n) (quotient (liveCount n sheet) (liveBegun n sheet) (rank on i) (rank on j)) (X i j)
+    unfolding EngineAccuracy EngineWithin EntryReduction X allowance liveCount liveBegun
+    quotient-within i hi oi =
+        let r = rank on n in
+        let at = downward r (liveSystem n sheet) in
+        let computed =
+        rw (stage-of-rank on n i hi oi) at
+        (engine-accuracy r (rank on j) (liveSystem n sheet) (live-good n sheet fit e) (live-out n sheet fit e) t u (solution j .0) (λ p. solution j .1 (stage on n p))
+        (live-solves n sheet fit e (right j) (identityColumn (rank on j)) (solution j .0) (solution j .1) right-side (solution j .3)) (rank on i) (rank-below on n i hi oi)) in
+        let few = rank-within on n in
+        let cubes = mul-le-mul (mul-le-mul few few) few in
+        entry-reduction (4 * n ^ 3) (quotient r at (rank on i) (rank on j)) (solution j .1 i) (solution j .0) (solution j .2) (computed .good)
+        (near-grow {e = 2 * (r * r * r)} (omega (arith, cube n, cubes)) (computed .near))
 
-  pub accurate-column : (j : ℕ) → T (columnInRange n sheet j) → AccurateColumn n everyStage (allowance 1 n) (matrix 1 n sheet) j (λ i. entry 1 n sheet i j)
-  unfolding columnInRange entry
-  accurate-column j t =
-      let at = downward n (system n sheet) in
+    -- Under its own number in the sheet.
+    live-within : (i : ℕ) → i < n → on i ≡ true → Within (allowance 1 n) (entry 1 n sheet i j) (X i j)
+    live-within i hi oi = rw (entry-live n sheet i j oi oj) (quotient-within i hi oi)
+
+  -- "Zero in an idle row or column."
+  idle-within : (i j : ℕ) → (on i && on j) ≡ false → Within (allowance 1 n) (entry 1 n sheet i j) (extended on X i j)
+  unfolding extended
+  idle-within i j f = rw (entry-idle n sheet i j f, f) (zero-within (allowance 1 n))
+
+  column-within : (j : ℕ) → j < n → T (shared (liveCount n sheet) (liveBegun n sheet)) → (on j ≡ true → T (column (liveCount n sheet) (liveBegun n sheet) (rank on j)))
+      → (i : ℕ) → i < n → Within (allowance 1 n) (entry 1 n sheet i j) (extended on X i j)
+  unfolding extended
+  column-within j hj t u i hi =
+      by-bool (on i && on j)
+      (λ both.
+      let oj = and-second (on i) (on j) both in
+      rw both (live-within j hj oj t (u oj) i hi (and-first (on i) (on j) both)))
+      (λ f. idle-within i j f)
+
+  pub accurate-column : (j : ℕ) → j < n → T (columnInRange n sheet j) → AccurateColumn n on (allowance 1 n) (matrix 1 n sheet) j (λ i. entry 1 n sheet i j)
+  unfolding columnInRange
+  accurate-column j hj t =
+      let r = liveCount n sheet in
+      let at = liveBegun n sheet in
+      let c = columnOf n sheet j in
       record {
         X = X;
         exact = only-inverse;
-        within = λ i s. column-within j (and-l (shared n at) (column n at j) t) (and-r (shared n at) (column n at j) t) i (s .below);
+        within = column-within j hj (and-l (shared r at) (column r at c) t) (λ o. rw (column-of-live n sheet j o) at (and-r (shared r at) (column r at c) t));
       }
 
   -- The whole table: every column.
-  first-table : T (everyStepInRange 1 n sheet) → Accurate n everyStage (allowance 1 n) (matrix 1 n sheet) (entry 1 n sheet)
-  unfolding everyStepInRange entry
+  first-table : T (everyStepInRange 1 n sheet) → Accurate n on (allowance 1 n) (matrix 1 n sheet) (entry 1 n sheet)
+  unfolding everyStepInRange liveCount
   first-table r =
-      let at = downward n (system n sheet) in
       record {
         X = X;
         inverse = only-inverse .inverse;
         unique = only-inverse .unique;
-        within = λ i j si sj. column-within j (table-shared n at r) (table-column n at r j (sj .below)) i (si .below);
+        within = λ i j hi hj.
+            column-within j hj (table-shared (liveCount n sheet) (liveBegun n sheet) r)
+            (λ o. table-column (liveCount n sheet) (liveBegun n sheet) r (rank on j) (rank-below on n j hj o)) i hi;
       }
 
 pub inverse-rule : InverseRule
@@ -134,8 +184,8 @@ reading-is reading e =
 -- The table of reading 2 under the table's own names.
 second-table :
     (n : ℕ) (sheet : List Float) → Binary64 sheet → numberQuestions 2 n sheet ≡ pass → T (everyStepInRange 2 n sheet)
-    → Accurate n everyStage (allowance 2 n) (matrix 2 n sheet) (entry 2 n sheet)
-unfolding everyStepInRange entry allowance
+    → Accurate n (takesPart 2 n sheet) (allowance 2 n) (matrix 2 n sheet) (entry 2 n sheet)
+unfolding everyStepInRange entry allowance takesPart
 second-table n sheet fit e r =
     subst (λ E. Accurate n everyStage (12 * E) (matrix 2 n sheet) (entry 2 n sheet)) (sym (cube n)) (second-reading n sheet fit e r)
 
@@ -143,7 +193,7 @@ second-table n sheet fit e r =
 pub accurate-table :
     (reading n : ℕ) (sheet : List Float) → Binary64 sheet → question1 reading ≡ pass → numberQuestions reading n sheet ≡ pass
     → T (everyStepInRange reading n sheet)
-    → Accurate n everyStage (allowance reading n) (matrix reading n sheet) (entry reading n sheet)
+    → Accurate n (takesPart reading n sheet) (allowance reading n) (matrix reading n sheet) (entry reading n sheet)
 accurate-table reading n sheet fit q e r =
     ⊎-elim
     (λ one. rw one (first-table n sheet fit (rw one at e) (rw one at r)))
@@ -164,5 +214,5 @@ pub column-rule : ColumnRule
 unfolding ColumnRule columnQuestions
 column-rule reading n sheet room stage fit accepted =
     let input = then-first (columnInput reading n sheet room stage) (ask (columnInRange n sheet (stage - 1)) 10 0 0) accepted in
-    accurate-column n sheet fit (column-numbers reading n sheet room stage input) (stage - 1)
+    accurate-column n sheet fit (column-numbers reading n sheet room stage input) (stage - 1) (column-stage reading n sheet room stage input)
     (ask-yes (columnInRange n sheet (stage - 1)) 10 0 0 (then-next (columnInput reading n sheet room stage) (ask (columnInRange n sheet (stage - 1)) 10 0 0) accepted))

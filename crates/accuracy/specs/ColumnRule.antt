@@ -4,8 +4,8 @@ use mathlib.Core.List.{List}
 use mathlib.Core.Path.{_≡_}
 use lib.Ieee.{Float}
 use Rattle.definitions.specs.Fractions.{Fraction}
-use Rattle.definitions.specs.Sheet.{allowance}
-use Rattle.definitions.specs.Matrix.{matrix, everyStage}
+use Rattle.definitions.specs.Sheet.{takesPart, allowance}
+use Rattle.definitions.specs.Matrix.{matrix}
 use Rattle.definitions.specs.Table.{entry}
 use Rattle.definitions.specs.Questions.{pass, numberQuestions}
 use Rattle.definitions.specs.Accuracy.{Binary64, OnlyInverse, AccurateColumn}
@@ -17,7 +17,7 @@ InverseRule =
     (n : ℕ) (sheet : List Float)
     → Binary64 sheet
     → numberQuestions 1 n sheet ≡ pass
-    → (X : ℕ → ℕ → Fraction) × OnlyInverse n everyStage (matrix 1 n sheet) X
+    → (X : ℕ → ℕ → Fraction) × OnlyInverse n (takesPart 1 n sheet) (matrix 1 n sheet) X
 
 -- Theorem: "The accuracy rule covers this column whenever it is accepted."
 unfoldable pub ColumnRule : Type 0
@@ -25,4 +25,4 @@ ColumnRule =
     (reading n : ℕ) (sheet : List Float) (room stage : ℕ)
     → Binary64 sheet
     → columnQuestions reading n sheet room stage ≡ pass
-    → AccurateColumn n everyStage (allowance 1 n) (matrix 1 n sheet) (stage - 1) (λ i. entry 1 n sheet i (stage - 1))
+    → AccurateColumn n (takesPart 1 n sheet) (allowance 1 n) (matrix 1 n sheet) (stage - 1) (λ i. entry 1 n sheet i (stage - 1))

@@ -7,29 +7,37 @@ use native.Mathlib.Omega.{arith}
 use mathlib.Core.Bool.{Bool, true, _&&_}
 use mathlib.Core.List.{List}
 use lib.Ieee.{Float}
-use borrow.Author.Tests.{le-leb}
+use borrow.Author.Tests.{le-leb, ne-eqb}
 use Rattle.exact.proofs.Cases.{by-equal}
-use Rattle.definitions.specs.Numbers.{_⊕_, _⊗_, 0·0, 1·0, all}
+use Rattle.definitions.specs.Numbers.{_⊕_, _⊗_, 1·0, all}
 use Rattle.definitions.specs.LeavingRates.{System, b↑}
 use Rattle.steps.proofs.All.{all-same}
 use Rattle.steps.proofs.AddProduct.{step-same}
 use Rattle.steps.proofs.Gathering.{Gathered, gathered-begins, gathered-turns, gathered-ends, gathered-all}
 use Rattle.steps.proofs.LeavingRatesSteps.{column-waits, column-step, upward-start, upward-step, solved-is}
 use Rattle.tables.specs.Operators.{replace, between}
-use Rattle.tables.specs.Vectors.{vector, IsVector}
+use Rattle.tables.specs.Vectors.{vector, IsVector, VectorHolds, ZeroVector}
 use Rattle.tables.proofs.Operators.{between-in, between-low, between-past}
 use Rattle.passes.specs.Multipliers.{Multipliers}
-use Rattle.column.specs.ColumnSteps.{largeProduct, StageGives, DownAt, UpAt, largeDown, largeUp, DownwardGives, UpwardGives}
+use Rattle.column.specs.ColumnSteps.{largeProduct, StageGives, UnitColumn, DownAt, UpAt, largeDown, largeUp, DownwardGives, UpwardGives}
+
+-- ---- column j of the identity, with its 1 or past the last stage
+pub unit-put : {r j : ℕ} {b xs : List Float} → ZeroVector b → VectorHolds xs (replace j 1·0 (vector b)) → UnitColumn r j xs
+unfolding replace
+unit-put {j = j} z h = record { long = h .long; is = λ i l. ap (λ (w : ℕ → Float). w i) (h .is ∙ ap (replace j 1·0) (z .is)) }
+
+pub unit-none : {r j : ℕ} {b : List Float} → ZeroVector b → r ≤ j → UnitColumn r j b
+unit-none {j = j} z l =
+    record { long = z .long; is = λ i m. ap (λ (w : ℕ → Float). w i) (z .is) ∙ rw (ne-eqb i j (λ e. omega arith)) }
 
 -- ---- document 01's column
 module _ (r : ℕ) (at : ℕ → System) (j : ℕ) where
   -- Column j of the identity, as stage j begins.
-  pub unit-column : {v : ℕ → Float} → v ≡ replace j 1·0 (λ _. 0·0) → DownAt r at j j v
-  unfolding replace
-  unit-column e =
+  pub unit-column : {xs : List Float} → UnitColumn r j xs → DownAt r at j j (vector xs)
+  unit-column h =
       record {
-        done = λ i l m. ap (λ (w : ℕ → Float). w i) e ∙ sym (column-waits r at j i i (omega arith));
-        due = λ i l m. ap (λ (w : ℕ → Float). w i) e ∙ sym (column-waits r at j j i (le-refl j));
+        done = λ i l m. h .is i m ∙ sym (column-waits r at j i i (omega arith));
+        due = λ i l m. h .is i m ∙ sym (column-waits r at j j i (le-refl j));
       }
 
   -- Every row is done after the last downward stage, and then the upward ones begin.

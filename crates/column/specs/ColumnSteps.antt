@@ -1,11 +1,11 @@
 -- One column of b through the steps for leaving rates (document 01, "Steps for leaving rates" and question 10).
 use mathlib.Core.Path.{_≡_}
 use Prim.Native.Nat.{ℕ, suc, _+_, _-_, _≤_, _<_}
-use mathlib.Core.Bool.{Bool, _&&_, _||_}
+use mathlib.Core.Bool.{Bool, _&&_, _||_, cond}
 use mathlib.Core.List.{List}
-use lib.Dec.{T}
+use lib.Dec.{T, eqb}
 use lib.Ieee.{Float, lt}
-use Rattle.definitions.specs.Numbers.{_⊕_, _⊗_, _⊘_, smallest, isZero, divInRange, all}
+use Rattle.definitions.specs.Numbers.{_⊕_, _⊗_, _⊘_, 0·0, 1·0, smallest, isZero, divInRange, all}
 use Rattle.definitions.specs.LeavingRates.{System, downward, m↓, m↑, b↓, b↑, solved, quotient, shared, column}
 use Rattle.tables.specs.Operators.{between}
 use Rattle.tables.specs.Vectors.{vector, IsVector, VectorHolds}
@@ -38,6 +38,11 @@ module _ (r : ℕ) (at : ℕ → System) (j : ℕ) where
 
   unfoldable pub largeUp : ℕ → Bool
   largeUp q = all (λ i. largeProduct (m↑ r at (r - suc q) i) (b↑ r at j q (r - suc q))) 0 (r - suc q)
+
+-- Column j of the identity of r stages, which b starts as; past the last stage it has no 1 (document 02, U3).
+pub record UnitColumn (r j : ℕ) (xs : List Float) : Type 0 where
+  pub long : IsVector xs
+  pub is : (i : ℕ) → i < r → vector xs i ≡ cond (eqb i j) 1·0 0·0
 
 -- The downward stages from j on, from a column v: where g has the multipliers of `at`, and v is the column as stage j begins.
 pub record DownwardGives (r j : ℕ) (g : ℕ → ℕ → Float) (v : ℕ → Float) (ok : Bool) (xs : List Float) : Type 0 where

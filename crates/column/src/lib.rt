@@ -10,7 +10,7 @@ ghost use mathlib.Core.Path.{_≡_};
 ghost use Prim.Native.Nat.{_≤_, _<_};
 ghost use Rattle.tables.specs.RowMajor.{IsTable, table};
 ghost use Rattle.tables.specs.Vectors.{IsVector, vector, ZeroVector};
-ghost use Rattle.column.specs.ColumnSteps.{largeProduct, StageGives, DownwardGives, UpwardGives, QuotientsGive, ColumnSolved};
+ghost use Rattle.column.specs.ColumnSteps.{largeProduct, StageGives, UnitColumn, DownwardGives, UpwardGives, QuotientsGive, ColumnSolved};
 
 // Whether the product of m and y is above 2^-1022 unless one of them is zero.
 fn large_product(m: f64, y: f64) -> bool
@@ -36,9 +36,19 @@ fn add_multiples(k: usize, from: usize, to: usize, t: &[f64; 1024], b: &mut [f64
     ok
 }
 
+// Column j of the identity, in a vector of zeros. Past the last stage, at j = r, it has no 1 (document 02, U3).
+fn identity(r: usize, j: usize, b: &mut [f64; 32])
+    requires { ⌜ (j ≤ r) × (r ≤ 32) × ZeroVector (now b) ⌝ }
+    ensures { λ _. ⌜ UnitColumn r j (now (b .exit)) ⌝ }
+{
+    if j < r {
+        vector::put(j, 1.0, b);
+    }
+}
+
 // The downward stages of column j, which begin with stage j: before it the column has nothing to add.
 fn downward_steps(r: usize, j: usize, t: &[f64; 1024], b: &mut [f64; 32]) -> bool
-    requires { ⌜ (j < r) × (r ≤ 32) × IsTable (now t) × IsVector (now b) ⌝ }
+    requires { ⌜ (j ≤ r) × (r ≤ 32) × IsTable (now t) × IsVector (now b) ⌝ }
     ensures { λ ok. ⌜ DownwardGives r j (table (now (t .entry))) (vector (now (b .entry))) ok (now (b .exit)) ⌝ }
 {
     let mut ok = true;
@@ -81,15 +91,16 @@ fn quotients(r: usize, t: &[f64; 1024], b: &mut [f64; 32]) -> bool
 }
 
 // Column j of the quotients, in b, of the system in t; true if its steps are in range. b holds zeros before;
-// afterwards it is left open where a step is not in range, and so is t.
+// afterwards it is left open where a step is not in range, and so is t. At j = r the steps are taken with a
+// column of zeros (document 02, U3).
 pub fn solve(r: usize, j: usize, t: &mut [f64; 1024], b: &mut [f64; 32]) -> bool
-    requires { ⌜ (j < r) × (r ≤ 32) × IsTable (now t) × ZeroVector (now b) ⌝ }
+    requires { ⌜ (j ≤ r) × (r ≤ 32) × IsTable (now t) × ZeroVector (now b) ⌝ }
     ensures { λ ok. ⌜ ColumnSolved r j (table (now (t .entry))) ok (now (b .exit)) ⌝ }
 {
     if !downward::shared(r, t) {
         return false;
     }
-    vector::put(j, 1.0, b);
+    identity(r, j, b);
     let down = downward_steps(r, j, t, b);
     let up = upward_steps(r, t, b);
     let last = quotients(r, t, b);

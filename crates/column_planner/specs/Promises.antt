@@ -6,9 +6,9 @@ use mathlib.Core.List.{List}
 use lib.Dec.{T}
 use lib.ListN.{length, getD}
 use lib.Ieee.{Float, nan}
-use Rattle.definitions.specs.Sheet.{allowance}
+use Rattle.definitions.specs.Sheet.{takesPart, allowance}
 use Rattle.definitions.specs.Table.{entry}
-use Rattle.definitions.specs.Matrix.{matrix, everyStage}
+use Rattle.definitions.specs.Matrix.{matrix}
 use Rattle.definitions.specs.Questions.{pass}
 use Rattle.definitions.specs.Accuracy.{AccurateColumn}
 use Rattle.definitions.specs.Column.{columnInRange, columnQuestions, columnAnswer, columnArea}
@@ -22,7 +22,7 @@ pub record ColumnDone (reading n : ℕ) (sheet : List Float) (stage : ℕ) (befo
   pub answered : filledGiven r ≡ columnAnswer reading n sheet (length before) stage
   pub area : after ≡ columnArea reading n sheet stage before
   pub accurate : columnQuestions reading n sheet (length before) stage ≡ pass
-      → AccurateColumn n everyStage (allowance 1 n) (matrix 1 n sheet) (stage - 1) (λ i. getD after i nan)
+      → AccurateColumn n (takesPart 1 n sheet) (allowance 1 n) (matrix 1 n sheet) (stage - 1) (λ i. getD after i nan)
 
 -- The steps: whether they are in range; where they are, the n numbers of column j.
 pub record ColumnStepped (n : ℕ) (sheet : List Float) (j : ℕ) (ok : Bool) (xs : List Float) : Type 0 where

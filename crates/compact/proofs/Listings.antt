@@ -8,12 +8,13 @@ use mathlib.Core.Bool.{Bool, true, false, not, _||_, cond}
 use mathlib.Core.List.{List, [], _∷_, _++_}
 use lib.ListN.{length, getD, set, length-set}
 use lib.Seq.{take-suc-set, getD-take}
-use Rattle.exact.proofs.Bools.{same-truth, if-in, if-out}
+use Rattle.exact.proofs.Cases.{by-order}
+use Rattle.exact.proofs.Bools.{contrary, same-truth, if-in, if-out}
 use Rattle.definitions.specs.Numbers.{all}
-use Rattle.definitions.specs.Margins.{stagesWith, rank}
+use Rattle.definitions.specs.Compact.{stagesWith, rank}
 use Rattle.steps.proofs.All.{each-below, every-below}
 use Rattle.steps.proofs.CompactOrder.{list-take, list-leave, rank-none, rank-take, rank-leave, rank-within, rank-below, stage-of-rank, Listed, listed}
-use Rattle.compact.specs.Listing.{stageAt, Listing, Stages}
+use Rattle.compact.specs.Listing.{stageAt, Listing, Stages, Found}
 
 -- ---- the list grows
 module _ (test : ℕ → Bool) where
@@ -62,11 +63,26 @@ module _ {test : ℕ → Bool} {n r : ℕ} {stages : List ℕ} (h : Listing test
     pub place : ℕ
     pub within : place < r
     pub stands : stageAt stages place ≡ i
+    pub ranked : rank test i ≡ place
 
   pub place-of : (i : ℕ) → i < n → test i ≡ true → Place i
   place-of i l t =
       let w : rank test i < r = rw (h .counted) (rank-below test n i l t) in
-      record { place = rank test i; within = w; stands = listing-at (rank test i) w ∙ stage-of-rank test n i l t }
+      record { place = rank test i; within = w; stands = listing-at (rank test i) w ∙ stage-of-rank test n i l t; ranked = refl }
+
+  -- The place that a search found: the stage's rank where it passes, and past the list where it does not.
+  module _ {i q : ℕ} (l : i < n) (f : Found r stages i q) where
+    pub found-passes : test i ≡ true → q ≡ rank test i
+    found-passes t =
+        by-order r q
+        (λ g. let w = place-of i l t in absurd (f .none (le-antisymm (f .inside) g) (w .place) (w .within) (w .stands)))
+        (λ g. sym (rw (f .at g) at (listing-stage q g .place)))
+
+    pub found-fails : test i ≡ false → q ≡ r
+    found-fails t =
+        by-order r q
+        (λ g. le-antisymm (f .inside) g)
+        (λ g. absurd (contrary (test i) (rw (f .at g) at (listing-stage q g .passes)) t))
 
   -- A test at every place of the list is the test at every stage that passes.
   pub all-listed : (p : ℕ → Bool) → all (λ q. p (stageAt stages q)) 0 r ≡ all (λ i. not (test i) || p i) 0 n

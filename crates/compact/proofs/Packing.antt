@@ -1,4 +1,4 @@
--- Rows and tables in compact order, as they are filled.
+-- Rows, tables and vectors in compact order, as they are filled.
 use mathlib.Core.Path.{_≡_, refl, ap, _∙_}
 use Prim.Native.Nat.{ℕ, _+_, _≤_, _<_, zero-le}
 use native.Mathlib.Nat.{le-antisymm}
@@ -7,9 +7,10 @@ use mathlib.Core.List.{List}
 use lib.Ieee.{Float}
 use Rattle.exact.proofs.Cases.{by-equal}
 use Rattle.tables.specs.RowMajor.{IsTable, table, Holds}
-use Rattle.tables.specs.Operators.{between, put}
-use Rattle.tables.proofs.Operators.{between-in, put-at, put-else}
-use Rattle.compact.specs.Compact.{Packed, UnpackedRow, Unpacked}
+use Rattle.tables.specs.Operators.{replace, between, put}
+use Rattle.tables.specs.Vectors.{IsVector, vector, VectorHolds}
+use Rattle.tables.proofs.Operators.{replace-same, replace-other, between-in, put-at, put-else}
+use Rattle.compact.specs.Compact.{Packed, UnpackedRow, Unpacked, UnpackedVector}
 
 pub packed-all : {r : ℕ} {stage : ℕ → ℕ} (f g : ℕ → ℕ → Float) {xs : List Float} → Holds xs (between 0 r (λ p. between 0 r (λ q. f (stage p) (stage q)) (g p)) g) → Packed r stage f xs
 packed-all {r} {stage} f g h =
@@ -63,3 +64,27 @@ module _ {stage : ℕ → ℕ} {y : ℕ → ℕ → Float} {r : ℕ} (once : (p 
 
   pub rows-end : {m : ℕ} {x : ℕ → ℕ → Float} {xs : List Float} → Unpacked stage y r m x xs → m ≤ r → r ≤ m → Unpacked stage y r r x xs
   rows-end h l m = rw (le-antisymm l m) at h
+
+-- ---- a vector
+module _ {stage : ℕ → ℕ} {y : ℕ → Float} {r : ℕ} (once : (p q : ℕ) → p < r → q < r → stage p ≡ stage q → p ≡ q) where
+  pub vector-begins : {xs : List Float} → IsVector xs → UnpackedVector stage y 0 (vector xs) xs
+  vector-begins e = record { long = e; at = λ q l. none-yet l; rest = λ i n. refl }
+
+  pub vector-turns : {m i : ℕ} {z : Float} {x : ℕ → Float} {xs ys : List Float} → m < r → i ≡ stage m → z ≡ y m
+      → UnpackedVector stage y m x xs
+      → VectorHolds ys (replace i z (vector xs))
+      → UnpackedVector stage y (m + 1) x ys
+  vector-turns {m} {i} {z} {x} {xs} l a e h k =
+      record {
+        long = k .long;
+        at = λ q g. ap (λ (f : ℕ → Float). f (stage q)) (k .is) ∙ by-equal q m
+            (λ s. rw (s, a) (replace-same (stage m) z (vector xs) ∙ e))
+            (λ s. replace-other i z (vector xs) (stage q) (λ o. s (once q m (omega arith) l (o ∙ a))) ∙ h .at q (omega arith));
+        rest = λ o n.
+            ap (λ (f : ℕ → Float). f o) (k .is)
+            ∙ replace-other i z (vector xs) o (λ s. n m (omega arith) (s ∙ a))
+            ∙ h .rest o (λ u g t. n u (omega arith) t);
+      }
+
+  pub vector-ends : {m : ℕ} {x : ℕ → Float} {xs : List Float} → UnpackedVector stage y m x xs → m ≤ r → r ≤ m → UnpackedVector stage y r x xs
+  vector-ends h l m = rw (le-antisymm l m) at h

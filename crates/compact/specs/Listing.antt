@@ -4,7 +4,7 @@ use Prim.Native.Nat.{ℕ, _≤_, _<_}
 use mathlib.Core.Bool.{Bool, false}
 use mathlib.Core.List.{List}
 use lib.ListN.{length, getD, take}
-use Rattle.definitions.specs.Margins.{stagesWith, rank}
+use Rattle.definitions.specs.Compact.{stagesWith, rank}
 
 -- A mark for each of the 32 places; and the stages that a mask marks.
 abbrev pub IsMask : List Bool → Type 0
@@ -29,3 +29,9 @@ pub record Stages (n r : ℕ) (stages : List ℕ) : Type 0 where
   pub room : r ≤ 32
   pub below : (q : ℕ) → q < r → stageAt stages q < n
   pub once : (p q : ℕ) → p < r → q < r → stageAt stages p ≡ stageAt stages q → p ≡ q
+
+-- The place q of stage i among the first r of the list, or r where it is not there.
+pub record Found (r : ℕ) (stages : List ℕ) (i q : ℕ) : Type 0 where
+  pub inside : q ≤ r
+  pub at : q < r → stageAt stages q ≡ i
+  pub none : q ≡ r → (p : ℕ) → p < r → stageAt stages p ≡ i → ⊥

@@ -1,12 +1,15 @@
-// A rising list of stages, and tables in compact order: place p of the list stands for stage stages[p].
+// A rising list of stages, and tables and vectors in compact order: place p of the list stands for stage
+// stages[p].
 ghost use mathlib.Core.Path.{_≡_};
 ghost use Prim.Native.Nat.{suc, _≤_, _<_};
 ghost use lib.ListN.{length};
 ghost use Rattle.tables.specs.RowMajor.{IsTable, table, Holds};
 ghost use Rattle.tables.specs.Operators.{span};
-ghost use Rattle.compact.specs.Listing.{IsMask, marked, stageAt, Listing, Stages};
-ghost use Rattle.compact.specs.Compact.{Packed, UnpackedRow, Unpacked};
+ghost use Rattle.tables.specs.Vectors.{IsVector, vector};
+ghost use Rattle.compact.specs.Listing.{IsMask, marked, stageAt, Listing, Stages, Found};
+ghost use Rattle.compact.specs.Compact.{Packed, UnpackedRow, Unpacked, UnpackedVector};
 use tables::row;
+use tables::vector;
 
 // Stage i follows the r listed stages before it, if the mask marks it. The result is the new count.
 fn list_stage(i: usize, r: usize, mask: &[bool; 32], stages: &mut [usize; 32]) -> usize
@@ -38,6 +41,19 @@ pub fn stage(q: usize, stages: &[usize; 32]) -> usize
     ensures { λ r. ⌜ r ≡ stageAt (now (stages .entry)) q ⌝ }
 {
     stages[q]
+}
+
+// The place of stage i in the list, or r where it is not listed.
+pub fn find(r: usize, stages: &[usize; 32], i: usize) -> usize
+    requires { ⌜ (r ≤ 32) × (length (now stages) ≡ 32) ⌝ }
+    ensures { λ q. ⌜ Found r (now (stages .entry)) i q ⌝ }
+{
+    for q in 0..r {
+        if stage(q, stages) == i {
+            return q;
+        }
+    }
+    r
 }
 
 fn pack_row(r: usize, p: usize, stages: &[usize; 32], t: &[f64; 1024], s: &mut [f64; 1024])
@@ -81,5 +97,17 @@ pub fn unpack(r: usize, stages: &[usize; 32], y: &[f64; 1024], x: &mut [f64; 102
 {
     for p in 0..r {
         unpack_row(r, p, stages, y, x);
+    }
+}
+
+// The way back of a vector: x at the listed stages becomes the r numbers of y; its other places stay.
+pub fn unpack_vector(r: usize, stages: &[usize; 32], y: &[f64; 32], x: &mut [f64; 32])
+    requires { ⌜ Stages 32 r (now stages) × IsVector (now y) × IsVector (now x) ⌝ }
+    ensures { λ _. ⌜ UnpackedVector (stageAt (now (stages .entry))) (vector (now (y .entry))) r (vector (now (x .entry))) (now (x .exit)) ⌝ }
+{
+    for q in 0..r {
+        let i = stage(q, stages);
+        let z = vector::get(q, y);
+        vector::put(i, z, x);
     }
 }

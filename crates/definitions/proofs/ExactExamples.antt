@@ -1,7 +1,7 @@
--- The exact side on H, P and I, by computation from the definitions.
+-- The exact side on H, P, I and D, by computation from the definitions.
 use mathlib.Core.Path.{refl}
 use Rattle.definitions.proofs.Computing.{computing}
-use Rattle.definitions.specs.ExactExamples.{MatrixOfH, ExactTables}
+use Rattle.definitions.specs.ExactExamples.{MatrixOfH, ExactTables, RuleOfD}
 
 pub matrix-of-H : MatrixOfH
 unfolding computing
@@ -9,4 +9,8 @@ matrix-of-H = (refl, refl, refl, refl)
 
 pub exact-tables : ExactTables
 unfolding computing
-exact-tables = ((refl, refl, refl, refl), (refl, refl, refl, refl), (refl, refl, refl, refl))
+exact-tables = ((refl, refl, refl, refl), (refl, refl, refl, refl), (refl, refl, refl, refl), refl)
+
+pub rule-of-D : RuleOfD
+unfolding computing
+rule-of-D X = (refl, refl, refl, refl)

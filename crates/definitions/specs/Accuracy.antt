@@ -1,7 +1,7 @@
 -- The accuracy rule, demand 3 (document 01, "The sheet and its two readings").
-use Prim.Native.Nat.{ℕ, _+_, _^_}
+use Prim.Native.Nat.{ℕ, _+_, _^_, _<_}
 use native.Mathlib.Nat.{one-le-pow}
-use mathlib.Core.Bool.{Bool}
+use mathlib.Core.Bool.{Bool, _&&_, cond}
 use mathlib.Core.List.{List}
 use lib.Dec.{T, lit<}
 use lib.IntN.{pos}
@@ -9,8 +9,8 @@ use lib.ListN.{getD}
 use lib.Ieee.{Float, nan, binary64, fits}
 use Rattle.definitions.specs.Numbers.{finite}
 use Rattle.definitions.specs.Fractions.{Fraction, _≈_, _≼_, whole, _*ᶠ_, value}
-use Rattle.definitions.specs.Matrix.{matrix, Stage, everyStage, Inverse}
-use Rattle.definitions.specs.Sheet.{allowance}
+use Rattle.definitions.specs.Matrix.{matrix, Stage, Inverse}
+use Rattle.definitions.specs.Sheet.{takesPart, allowance}
 use Rattle.definitions.specs.Table.{entry}
 use Rattle.definitions.specs.Questions.{Accepted}
 
@@ -31,18 +31,23 @@ pub record OnlyInverse (n : ℕ) (on : ℕ → Bool) (A X : ℕ → ℕ → Frac
   pub inverse : Inverse n on A X
   pub unique : (Y : ℕ → ℕ → Fraction) → Inverse n on A Y → (i j : ℕ) → Stage n on i → Stage n on j → X i j ≈ Y i j
 
--- "There is such an X, and only one; and for every i and j", with x the entry (i, j) of the table and y that of X.
+-- The rule's y: X "over the other stages, each under its own number in the sheet", and "zero in an idle row or column" (document
+-- 02, U3).
+unfoldable pub extended : (ℕ → Bool) → (ℕ → ℕ → Fraction) → ℕ → ℕ → Fraction
+extended on X i j = cond (on i && on j) (X i j) (whole 0)
+
+-- "There is such an X, and only one; and for every i and j", with x the entry (i, j) of the table and y that of the rule.
 pub record Accurate (n : ℕ) (on : ℕ → Bool) (E : ℕ) (A : ℕ → ℕ → Fraction) (x : ℕ → ℕ → Float) : Type 0 where
   pub X : ℕ → ℕ → Fraction
   pub inverse : Inverse n on A X
   pub unique : (Y : ℕ → ℕ → Fraction) → Inverse n on A Y → (i j : ℕ) → Stage n on i → Stage n on j → X i j ≈ Y i j
-  pub within : (i j : ℕ) → Stage n on i → Stage n on j → Within E (x i j) (X i j)
+  pub within : (i j : ℕ) → i < n → j < n → Within E (x i j) (extended on X i j)
 
 -- The same for every i and one j: the numbers x of column j alone (document 02, U2).
 pub record AccurateColumn (n : ℕ) (on : ℕ → Bool) (E : ℕ) (A : ℕ → ℕ → Fraction) (j : ℕ) (x : ℕ → Float) : Type 0 where
   pub X : ℕ → ℕ → Fraction
   pub exact : OnlyInverse n on A X
-  pub within : (i : ℕ) → Stage n on i → Within E (x i) (X i j)
+  pub within : (i : ℕ) → i < n → Within E (x i) (extended on X i j)
 
 -- The numbers of a lent sheet are binary64 numbers.
 unfoldable pub Binary64 : List Float → Type 0
@@ -54,4 +59,4 @@ AccuracyRule =
     (reading n : ℕ) (sheet : List Float)
     → Binary64 sheet
     → Accepted reading n sheet
-    → Accurate n everyStage (allowance reading n) (matrix reading n sheet) (entry reading n sheet)
+    → Accurate n (takesPart reading n sheet) (allowance reading n) (matrix reading n sheet) (entry reading n sheet)

@@ -1,14 +1,15 @@
 -- Only the signer's column (document 02, U2): seconds at one stage, counted from 1, from every entry; for reading 1 alone.
 use Prim.Native.Nat.{ℕ, _-_}
-use mathlib.Core.Bool.{Bool, _&&_}
+use mathlib.Core.Bool.{Bool, _&&_, cond}
 use mathlib.Core.List.{List}
 use lib.Dec.{eqb}
 use lib.ListN.{length}
 use lib.Ieee.{Float}
-use Rattle.definitions.specs.Sheet.{system, allowance}
+use Rattle.definitions.specs.Sheet.{takesPart, allowance}
 use Rattle.definitions.specs.Tables.{list}
-use Rattle.definitions.specs.LeavingRates.{downward, shared, column}
-use Rattle.definitions.specs.Table.{entry}
+use Rattle.definitions.specs.Compact.{rank}
+use Rattle.definitions.specs.LeavingRates.{shared, column}
+use Rattle.definitions.specs.Table.{liveCount, liveBegun, entry}
 use Rattle.definitions.specs.Questions.{Asked, ask, _then_, question2, question3, question4, question5, numberQuestions}
 use Rattle.definitions.specs.Services.{Answer, answer, filled}
 
@@ -24,9 +25,17 @@ columnShape reading n held room stage =
 unfoldable pub columnInput : ℕ → ℕ → List Float → ℕ → ℕ → Asked
 columnInput reading n sheet room stage = columnShape reading n (length sheet) room stage then numberQuestions 1 n sheet
 
--- "10 looks at this engine's own steps": those that serve every column, and those of column j of b.
+-- The column of b that stage j's numbers come from. Asked for an idle stage, "the column engine still takes all steps of the others,
+-- with a column of zeros" (document 02, U3): past the last stage the identity has no 1.
+unfoldable pub columnOf : ℕ → List Float → ℕ → ℕ
+columnOf n sheet j = let on = takesPart 1 n sheet in cond (on j) (rank on j) (liveCount n sheet)
+
+-- "10 looks at this engine's own steps": those that serve every column, and those of that column of b.
 unfoldable pub columnInRange : ℕ → List Float → ℕ → Bool
-columnInRange n sheet j = let at = downward n (system n sheet) in shared n at && column n at j
+columnInRange n sheet j =
+    let r = liveCount n sheet in
+    let at = liveBegun n sheet in
+    shared r at && column r at (columnOf n sheet j)
 
 unfoldable pub columnQuestions : ℕ → ℕ → List Float → ℕ → ℕ → Asked
 columnQuestions reading n sheet room stage = columnInput reading n sheet room stage then ask (columnInRange n sheet (stage - 1)) 10 0 0

@@ -1,4 +1,4 @@
--- Columns to try (document 02, U2): calls with what they answer and leave, and one claim about all of them.
+-- Columns to try (document 02, U2 and U3): calls with what they answer and leave, and one claim about all of them.
 use Prim.Native.Nat.{ℕ, _-_, _^_}
 use mathlib.Core.List.{List, [], _∷_, map}
 use mathlib.Core.Path.{_≡_}
@@ -75,6 +75,12 @@ columns =
     ∷ line 1 3 (num 1 ∷ minus tiny ∷ num 0 ∷ num 0 ∷ num 1 ∷ minus tiny ∷ num 0 ∷ num 0 ∷ num 1 ∷ []) 2 three (gives 108 (tiny ∷ num 1 ∷ num 0 ∷ []))
     -- a pivot that overflows is a step of every column
     ∷ line 1 3 (num 1 ∷ num 0 ∷ num 0 ∷ num 0 ∷ most ∷ minus most ∷ num 0 ∷ num 0 ∷ num 1 ∷ []) 1 three (refuses 10 0 0 three)
+    -- idle stages: a column of zeros, with the steps of the others, those that serve every column and no other column's
+    ∷ line 1 2 (num 1 ∷ num 0 ∷ num 0 ∷ num 0 ∷ []) 1 three (gives 32 (num 1 ∷ num 0 ∷ num 9 ∷ []))
+    ∷ line 1 2 (num 1 ∷ num 0 ∷ num 0 ∷ num 0 ∷ []) 2 three (gives 32 (num 0 ∷ num 0 ∷ num 9 ∷ []))
+    ∷ line 1 2 (num 0 ∷ num 0 ∷ num 0 ∷ num (2 ^ 1022) ∷ []) 1 three (gives 32 (num 0 ∷ num 0 ∷ num 9 ∷ []))
+    ∷ line 1 2 (num 0 ∷ num 0 ∷ num 0 ∷ num (2 ^ 1022) ∷ []) 2 three (refuses 10 0 0 three)
+    ∷ line 1 3 (num 0 ∷ num 0 ∷ num 0 ∷ num 0 ∷ most ∷ minus most ∷ num 0 ∷ num 0 ∷ num 1 ∷ []) 1 three (refuses 10 0 0 three)
     -- the questions before it, in order
     ∷ line 2 0 [] 0 [] (refuses 1 0 0 [])
     ∷ line 1 33 [] 0 [] (refuses 2 0 0 [])
@@ -85,5 +91,5 @@ columns =
     ∷ line 1 2 (num 1 ∷ num 1 ∷ nan ∷ num 1 ∷ []) 1 three (refuses 6 2 1 three)
     ∷ line 1 2 (num 0 ∷ num 1 ∷ num 0 ∷ num 0 ∷ []) 1 three (refuses 7 1 2 three)
     ∷ line 1 2 (num 0 ∷ minus (quo 1 (2 ^ 1074)) ∷ num 0 ∷ num 0 ∷ []) 1 three (refuses 8 1 2 three)
-    ∷ line 1 2 (num (2 ^ 1022) ∷ num 0 ∷ num 0 ∷ num 0 ∷ []) 1 three (refuses 9 2 0 three)
+    ∷ line 1 2 (num (2 ^ 1022) ∷ minus (num 1) ∷ num 0 ∷ num 0 ∷ []) 1 three (refuses 9 2 0 three)
     ∷ []

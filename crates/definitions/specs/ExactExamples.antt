@@ -1,11 +1,15 @@
--- The exact side on the sheets of document 01, "Sheets to try": H's matrix as printed there, and tables that are exact inverses.
+-- The exact side on the sheets of document 01, "Sheets to try": H's matrix as printed there, tables that are exact inverses, and the
+-- rule's y where a stage is idle.
 use Prim.Native.Nat.{ℕ}
 use mathlib.Core.List.{List, [], _∷_}
 use mathlib.Core.Bool.{cond}
+use mathlib.Core.Path.{_≡_}
 use lib.Dec.{eqb}
 use lib.Ieee.{Float}
-use Rattle.definitions.specs.Fractions.{_≈_, whole, -ᶠ_, _*ᶠ_, value, total}
-use Rattle.definitions.specs.Matrix.{matrix, everyStage}
+use Rattle.definitions.specs.Fractions.{Fraction, _≈_, whole, -ᶠ_, _*ᶠ_, value, total}
+use Rattle.definitions.specs.Sheet.{takesPart}
+use Rattle.definitions.specs.Matrix.{matrix}
+use Rattle.definitions.specs.Accuracy.{extended}
 use Rattle.definitions.specs.Table.{entry}
 use Rattle.definitions.specs.Starred.{num, minus}
 
@@ -20,17 +24,31 @@ MatrixOfH =
     × (matrix 2 2 sheetH 1 0 ≈ -ᶠ whole 4)
     × (matrix 2 2 sheetH 1 1 ≈ whole 2)
 
--- A times the printed table is the identity: place (i, j) of two stages.
+-- A times the printed table is the identity, over the stages that take part: place (i, j) of two stages.
 unfoldable pub Product : ℕ → List Float → ℕ → ℕ → Type 0
 Product reading sheet i j =
-    total everyStage (λ k. matrix reading 2 sheet i k *ᶠ value (entry reading 2 sheet k j)) 2 ≈ cond (eqb i j) (whole 1) (whole 0)
+    total (takesPart reading 2 sheet) (λ k. matrix reading 2 sheet i k *ᶠ value (entry reading 2 sheet k j)) 2 ≈ cond (eqb i j) (whole 1) (whole 0)
 
 unfoldable pub ExactTable : ℕ → List Float → Type 0
 ExactTable reading sheet = Product reading sheet 0 0 × Product reading sheet 0 1 × Product reading sheet 1 0 × Product reading sheet 1 1
 
--- P, H and I.
+-- D, whose second stage is idle (document 02, U3).
+unfoldable pub sheetD : List Float
+sheetD = num 1 ∷ num 0 ∷ num 0 ∷ num 0 ∷ []
+
+-- P, H and I; and of D the one stage that is not idle.
 unfoldable pub ExactTables : Type 0
 ExactTables =
     ExactTable 1 (num 1 ∷ minus (num 1) ∷ minus (num 1) ∷ num 0 ∷ [])
     × ExactTable 2 sheetH
     × ExactTable 2 (num 2 ∷ num 0 ∷ minus (num 1) ∷ num 4 ∷ [])
+    × Product 1 sheetD 0 0
+
+-- The rule's y on D, whatever X is: X's entry at the first stage, and zero in the row and column of the second, which is idle.
+unfoldable pub RuleOfD : Type 0
+RuleOfD =
+    (X : ℕ → ℕ → Fraction)
+    → (extended (takesPart 1 2 sheetD) X 0 0 ≡ X 0 0)
+    × (extended (takesPart 1 2 sheetD) X 0 1 ≡ whole 0)
+    × (extended (takesPart 1 2 sheetD) X 1 0 ≡ whole 0)
+    × (extended (takesPart 1 2 sheetD) X 1 1 ≡ whole 0)

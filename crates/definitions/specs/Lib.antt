@@ -1,6 +1,7 @@
 pub mod Numbers
 pub mod Tables
 pub mod LeavingRates
+pub mod Compact
 pub mod Margins
 pub mod Sheet
 pub mod Table

@@ -2,29 +2,12 @@
 -- "All sums start at plus zero and rise in j."
 use Prim.Native.Nat.{ℕ, zero, suc, _-_}
 use mathlib.Core.Bool.{Bool, true, not, _&&_, _||_, cond}
-use mathlib.Core.List.{List, [], _∷_, _++_}
 use lib.Dec.{leb, eqb}
-use lib.ListN.{length, getD}
 use lib.Ieee.{Float}
 use Rattle.definitions.specs.Numbers.{_⊕_, _⊗_, _⊘_, 0·0, 1·0, isZero, addInRange, mulInRange, divInRange, sum, sumInRange, all}
 use Rattle.definitions.specs.Tables.{stored, storedTable}
 use Rattle.definitions.specs.LeavingRates.{System, downward, quotient, inRange}
-
--- The stages below n that pass a test, rising; a stage's rank is how many of them come before it.
-unfoldable pub stagesWith : (ℕ → Bool) → ℕ → List ℕ
-stagesWith test zero = []
-stagesWith test (suc n) = stagesWith test n ++ cond (test n) (n ∷ []) []
-
-unfoldable pub rank : (ℕ → Bool) → ℕ → ℕ
-rank test i = length (stagesWith test i)
-
--- The system of the listed stages, in compact order.
-unfoldable pub compact : List ℕ → System → System
-compact stages a =
-    record {
-      t = storedTable 0·0 (length stages) (λ i j. a .t (getD stages i 0) (getD stages j 0));
-      s = stored 0·0 (length stages) (λ i. a .s (getD stages i 0));
-    }
+use Rattle.definitions.specs.Compact.{stagesWith, rank, compact}
 
 -- The sum of f over the stages below n that pass a test, rising, and its additions in range.
 unfoldable pub sumWith : (ℕ → Bool) → (ℕ → Float) → ℕ → Float

@@ -39,7 +39,7 @@ matrix reading n sheet i j =
     let second = marginSum n (exactSize n sheet) (exactDiagonal n sheet) i in
     cond (eqb i j) (cond (eqb reading 1) first second) (-ᶠ exactSize n sheet i j)
 
--- A stage below n that takes part; at present every stage does.
+-- A stage below n that takes part.
 pub record Stage (n : ℕ) (on : ℕ → Bool) (i : ℕ) : Type 0 where
   pub below : i < n
   pub part : T (on i)

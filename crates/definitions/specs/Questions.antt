@@ -8,7 +8,7 @@ use lib.ListN.{length}
 use lib.Ieee.{Float, lt, le, neg}
 use Rattle.exact.specs.Chains.{outWithin}
 use Rattle.definitions.specs.Numbers.{0·0, smallest, finite, isZero}
-use Rattle.definitions.specs.Sheet.{place, size, diagonal}
+use Rattle.definitions.specs.Sheet.{place, size, diagonal, idle}
 use Rattle.definitions.specs.Table.{everyStepInRange}
 
 -- "A no ends the call with the number, a row and a column."
@@ -91,8 +91,12 @@ leaves n sheet i = lt 0·0 (diagonal n sheet i)
 unfoldable pub getsOut : ℕ → List Float → ℕ → Bool
 getsOut n sheet i = outWithin 0 n (moves n sheet) (leaves n sheet) n i
 
+-- "An idle stage is no longer trapped for 9" (document 02, U3).
+unfoldable pub notTrapped : ℕ → List Float → ℕ → Bool
+notTrapped n sheet i = idle n sheet i || getsOut n sheet i
+
 unfoldable pub question9 : ℕ → ℕ → List Float → Asked
-question9 reading n sheet = let asked = askStages (getsOut n sheet) 9 0 n in cond (eqb reading 1) asked pass
+question9 reading n sheet = let asked = askStages (notTrapped n sheet) 9 0 n in cond (eqb reading 1) asked pass
 
 -- 10: "Is every step in range?"
 unfoldable pub question10 : ℕ → ℕ → List Float → Asked

@@ -1,12 +1,12 @@
 -- A flow sheet of n stages (document 01, "The sheet and its two readings"): n × n numbers, row by row.
 -- Stage i of the paper is i - 1 here.
 use Prim.Native.Nat.{ℕ, _+_, _*_, _^_}
-use mathlib.Core.Bool.{not, _&&_, cond}
+use mathlib.Core.Bool.{Bool, true, not, _&&_, cond}
 use mathlib.Core.List.{List}
 use lib.Dec.{eqb, ltb}
 use lib.ListN.{getD}
 use lib.Ieee.{Float, nan}
-use Rattle.definitions.specs.Numbers.{_⊕_, _⊖_, 0·0}
+use Rattle.definitions.specs.Numbers.{_⊕_, _⊖_, 0·0, isZero, all}
 use Rattle.definitions.specs.LeavingRates.{System}
 
 -- The number at place (i, j).
@@ -26,6 +26,14 @@ diagonal n sheet i = cond (ltb i n) (place n sheet i i ⊕ 0·0) 0·0
 unfoldable pub system : ℕ → List Float → System
 system n sheet = record { t = size n sheet; s = diagonal n sheet }
 
--- The allowance E of a table: 4n³ for reading 1, 12n³ for reading 2.
+-- "In reading 1, a stage whose row and column are all zero is idle" (document 02, U3): zeros of either sign, the diagonal's too.
+unfoldable pub idle : ℕ → List Float → ℕ → Bool
+idle n sheet i = all (λ j. isZero (place n sheet i j) && isZero (place n sheet j i)) 0 n
+
+-- The stages that take part in the steps: in reading 1 those that are not idle, in reading 2 every stage.
+unfoldable pub takesPart : ℕ → ℕ → List Float → ℕ → Bool
+takesPart reading n sheet i = cond (eqb reading 1) (not (idle n sheet i)) true
+
+-- The allowance E of a table: 4n³ for reading 1, 12n³ for reading 2; "n still counting all" stages (document 02, U3).
 unfoldable pub allowance : ℕ → ℕ → ℕ
 allowance reading n = cond (eqb reading 1) 4 12 * n ^ 3

@@ -47,16 +47,16 @@ line reading n sheet expected = record { reading = reading; n = n; sheet = sheet
 abbrev pub gives : ℕ → List Float → Answer Table
 gives allowed numbers = given (record { allowed = allowed; numbers = numbers })
 
--- The sheets marked *.
+-- The sheets marked *; B and D as document 02, U3 has them.
 unfoldable pub starred : List Line
 starred =
     -- A, B
     line 1 1 (num 2 ∷ []) (gives 4 (quo 1 2 ∷ []))
-    ∷ line 1 1 (num 0 ∷ []) (refused 9 1 0)
+    ∷ line 1 1 (num 0 ∷ []) (gives 4 (num 0 ∷ []))
     -- P, C, D
     ∷ line 1 2 (num 1 ∷ minus (num 1) ∷ minus (num 1) ∷ num 0 ∷ []) (gives 32 (num 1 ∷ num 1 ∷ num 1 ∷ num 2 ∷ []))
     ∷ line 1 2 (num 0 ∷ minus (num 1) ∷ minus (num 1) ∷ num 0 ∷ []) (refused 9 1 0)
-    ∷ line 1 2 (num 1 ∷ num 0 ∷ num 0 ∷ num 0 ∷ []) (refused 9 2 0)
+    ∷ line 1 2 (num 1 ∷ num 0 ∷ num 0 ∷ num 0 ∷ []) (gives 32 (num 1 ∷ num 0 ∷ num 0 ∷ num 0 ∷ []))
     -- E, F
     ∷ line 1 1 (num (2 ^ 1021) ∷ []) (gives 4 (quo 1 (2 ^ 1021) ∷ []))
     ∷ line 1 1 (num (2 ^ 1022) ∷ []) (refused 10 0 0)
@@ -68,7 +68,7 @@ starred =
     ∷ line 1 2 (num 1 ∷ nan ∷ num 5 ∷ num 1 ∷ []) (refused 6 1 2)
     ∷ []
 
--- Further sheets, each of which tells document 01 from a near misreading.
+-- Further sheets, each of which tells the documents from a near misreading.
 unfoldable pub further : List Line
 further =
     -- each question is asked of the whole sheet before the next: 6 before 7, 7 before 9
@@ -79,6 +79,14 @@ further =
     ∷ line 2 1 (minus (num 0) ∷ []) (refused 7 1 1)
     ∷ line 1 2 (num 1 ∷ minus (quo 1 (2 ^ 1074)) ∷ num 0 ∷ num 1 ∷ []) (refused 8 1 2)
     ∷ line 1 2 (num 1 ∷ minus (quo 1 (2 ^ 1022)) ∷ num 0 ∷ num 1 ∷ []) (refused 10 0 0)
+    -- idle stages (document 02, U3): row and column, the diagonal included, zeros of either sign
+    ∷ line 1 2 (num 1 ∷ minus (num 1) ∷ num 0 ∷ num 0 ∷ []) (refused 9 2 0)
+    ∷ line 1 1 (minus (num 0) ∷ []) (gives 4 (num 0 ∷ []))
+    ∷ line 1 3 (num 2 ∷ minus (num 0) ∷ minus (num 1) ∷ num 0 ∷ minus (num 0) ∷ num 0 ∷ num 0 ∷ minus (num 0) ∷ num 4 ∷ [])
+    (gives 108 (quo 1 3 ∷ num 0 ∷ word 0x3fb5555555555555 ∷ num 0 ∷ num 0 ∷ num 0 ∷ num 0 ∷ num 0 ∷ quo 1 4 ∷ []))
+    -- the others' numbers go through the steps as they are: no product of a size this small is in range
+    ∷ line 1 3 (num 0 ∷ num 0 ∷ num 0 ∷ num 0 ∷ num 1 ∷ minus (quo 1 (2 ^ 1022)) ∷ num 0 ∷ num 0 ∷ quo 1 (2 ^ 10) ∷ [])
+    (gives 108 (num 0 ∷ num 0 ∷ num 0 ∷ num 0 ∷ num 1 ∷ quo 1 (2 ^ 1012) ∷ num 0 ∷ num 0 ∷ num (2 ^ 10) ∷ []))
     -- "above 2^-1022" is asked of the rounded result
     ∷ line 1 2 (quo (2 ^ 52 + 1) (2 ^ 552) ∷ minus (num 1) ∷ minus (quo (2 ^ 53 - 1) (2 ^ 575)) ∷ num 1 ∷ []) (refused 10 0 0)
     ∷ line 1 1 (num (2 ^ 1022 - 2 ^ 969) ∷ []) (gives 4 (word 0x0010000000000001 ∷ []))

@@ -46,6 +46,29 @@ pub solves-cong :
 solves-cong {k} {m} {d = d} {z = z} h s =
     record { row = λ i l. subst (λ row. RowHolds k m row d z i) (h i l) (s .row i l) }
 
+-- Rows with the same numbers in the range.
+pub record SameRow (k m : ℕ) (x y : Row) : Type 0 where
+  pub size : (j : ℕ) → In k m j → x .size j ≡ y .size j
+  pub exit : x .exit ≡ y .exit
+  pub right : x .right ≡ y .right
+
+pub solves-same :
+    {k m : ℕ} {A B : Equations} {d : ℕ} {z : ℕ → ℕ}
+    → ((i : ℕ) → In k m i → SameRow k m (A i) (B i)) → Solves k m A d z → Solves k m B d z
+unfolding diag mix
+solves-same {k} {m} {A} {B} {d} {z} h s = record { row = row }
+  where
+    row : (i : ℕ) → In k m i → RowHolds k m (B i) d z i
+    row i l =
+        let same = h i l in
+        rw (
+          ← (same .exit),
+          ← (same .right),
+          ← (sum-cong (A i .size) (B i .size) k m (same .size)),
+          ← (sum-cong (λ j. A i .size j * z j) (λ j. B i .size j * z j) k m (λ j o. ap (λ x. x * z j) (same .size j o))),
+        )
+        (s .row i l)
+
 pub solves-at :
     {k m : ℕ} {A : Equations} {d : ℕ} (y z : ℕ → ℕ)
     → ((i : ℕ) → In k m i → y i ≡ z i) → Solves k m A d y → Solves k m A d z

@@ -1,9 +1,11 @@
 -- The rule of each reading: its row form and its regularity put into the reduction.
 use Prim.Native.Nat.{_+_, _*_}
+use mathlib.Core.Path.{ap}
+use Rattle.exact.specs.Sums.{sum}
 use Rattle.exact.specs.Systems.{diag}
-use Rattle.definitions.specs.Matrix.{matrix, everyStage}
+use Rattle.definitions.specs.Matrix.{matrix}
 use Rattle.rounding.specs.Good.{one·units}
-use Rattle.inverse.specs.Reduction.{Apart, Reduction, SystemInverse}
+use Rattle.inverse.specs.Reduction.{Reduction, SystemInverse}
 use Rattle.inverse.specs.ExactRatios.{H}
 use Rattle.inverse.specs.RowForms.{LeavingRatesRows, MarginsRows}
 use Rattle.inverse.specs.ExactScaled.{MarginsRegular}
@@ -14,13 +16,14 @@ use Rattle.inverse.proofs.ExactScaled.{margins-regular}
 
 pub leaving-rates-inverse : LeavingRatesInverse
 unfolding LeavingRatesInverse SystemInverse LeavingRatesRows diag
-leaving-rates-inverse n sheet S Z z h =
-    system-inverse n (matrix 1 n sheet) S (λ i. one·units) Z z
-    (leaving-rates-rows n sheet (λ i. S i .size) (λ i. S i .exit) h)
+leaving-rates-inverse n on sheet S s Z z h exits =
+    system-inverse n on (matrix 1 n sheet) S (λ i. s i + sum (S i .size) 0 n) (λ i. one·units) Z z
+    (leaving-rates-rows n sheet (λ i. S i .size) s h)
+    (λ i o. ap (λ x. x + sum (S i .size) 0 n) (exits i o))
 
 pub margins-reduced : MarginsReduced
-unfolding MarginsReduced Reduction Apart MarginsRows MarginsRegular
+unfolding MarginsReduced Reduction MarginsRows MarginsRegular
 margins-reduced n E sheet x t d D K Z z h r columns table =
-    reduction n everyStage E (matrix 2 n sheet) x
+    reduction n E (matrix 2 n sheet) x
     (λ i. d i * D + H n t D K i + t i i * D) (λ i j. t i j * D) (λ i. one·units * D) Z z
-    (margins-rows n sheet t d D K h r) (λ i j s l o. absurd o) columns (margins-regular n t d D K r) table
+    (margins-rows n sheet t d D K h r) columns (margins-regular n t d D K r) table

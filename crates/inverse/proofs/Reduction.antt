@@ -1,28 +1,33 @@
 -- The accuracy rule follows from its whole-number form. X has the entries z_ji / Z_j; a matrix Y that is inverse too has each
 -- column over the product of its denominators, as P − Q over D, and Z·P is compared with Z·Q + D·z.
 use mathlib.Core.Path.{_≡_, refl, sym, ap, _∙_, subst}
-use mathlib.Core.Logic.{_≢_, inr}
+use mathlib.Core.Logic.{_≢_, _⊎_, inl, inr}
 use mathlib.Core.Bool.{Bool, true, false, not, cond}
-use Prim.Native.Nat.{ℕ, _+_, _*_, _/_, _^_, _<_}
-use native.Mathlib.Nat.{mul-zero, mul-pos, le-antisymm, le-of-eq}
+use Prim.Native.Nat.{ℕ, _+_, _*_, _/_, _^_, _≤_, _<_, zero-le}
+use native.Mathlib.Nat.{zero-mul, mul-zero, mul-pos, le-antisymm, le-of-eq}
 use native.Mathlib.Omega.{arith}
 use lib.Dec.{T, T-not, eqb, lit<}
+use lib.Ieee.{Float}
+use lib.Ieee.Bits.{is-true}
 use Rattle.exact.specs.Chains.{In}
-use Rattle.exact.specs.Near.{base, next}
+use Rattle.exact.specs.Near.{base, next, Near}
 use Rattle.exact.specs.Sums.{sum}
 use Rattle.exact.specs.Systems.{Equations, diag, mix, AllOut}
-use Rattle.exact.specs.Comparison.{Comparison}
+use Rattle.exact.specs.Comparison.{RowBelow, Comparison}
+use Rattle.exact.proofs.Cases.{by-bool}
 use Rattle.exact.proofs.Comparison.{comparison}
 use Rattle.exact.proofs.CommonDenominator.{product, product-pos, over-product}
-use Rattle.exact.proofs.Sums.{sum-add, zero-sum, sum-factor}
+use Rattle.exact.proofs.Sums.{sum-add, sum-cong, zero-sum, sum-factor}
 use Rattle.definitions.specs.Fractions.{Fraction, _≈_, whole, _*ᶠ_, total}
 use Rattle.definitions.specs.Matrix.{Stage, everyStage, Inverse}
-use Rattle.definitions.specs.Accuracy.{growth}
+use Rattle.definitions.specs.Numbers.{0·0, units}
+use Rattle.definitions.specs.Accuracy.{growth, extended, Within}
 use Rattle.inverse.specs.Reduction.{plusPart, minusPart, Ratio, delta, RowForm, Columns, Regular, Apart, fraction, InverseReduction, EntryReduction, Reduction, SystemInverse}
 use Rattle.inverse.proofs.PartialSums.{delta-other, delta-times, sum-delta, sum-mix}
-use Rattle.rounding.proofs.Laws.{one-pos, good-finite}
+use Rattle.rounding.specs.Good.{Good, one·units}
+use Rattle.rounding.proofs.Laws.{one-pos, good-finite, zero-is-good, units-zero}
 use Rattle.inverse.proofs.SignedFractions.{times, own-ratio, ratio-as, ratio-carry, ratios-agree, ratio-of-equal, same-ratio, ratio-scale, ratio-mul, plain-mul, ratio-total, plain-le, plain-sign, whole-ratio, max-one, value-ratio}
-use Rattle.exact.proofs.Near.{base-pos}
+use Rattle.exact.proofs.Near.{base-pos, near-eq}
 
 -- The entry (i, j) of the identity.
 delta-whole : (i j : ℕ) → Ratio (cond (eqb i j) (whole 1) (whole 0)) (delta i j 1) 0 1
@@ -112,11 +117,9 @@ growth-ratio E = record { across = refl }
 pub fraction-ratio : (z d : ℕ) → 0 < d → Ratio (fraction z d) z 0 d
 fraction-ratio z d l = record { across = rw (max-one d l) (omega arith) }
 
-pub entry-reduction : EntryReduction
-unfolding EntryReduction
-entry-reduction E x z d l g h =
+ratio-within : {E z d : ℕ} {x : Float} {y : Fraction} → 0 < d → Ratio y z 0 d → Good x → Near E (units x * d) (z * one·units) → Within E x y
+ratio-within {E} l r g h =
     let v = value-ratio g in
-    let r = fraction-ratio z d l in
     record {
       number = good-finite g;
       x-sign = plain-sign one-pos v;
@@ -124,6 +127,14 @@ entry-reduction E x z d l g h =
       upper = plain-le one-pos (mul-pos l (base-pos E)) v (plain-mul r (growth-ratio E)) (omega (arith, h .upper));
       lower = plain-le l (mul-pos one-pos (base-pos E)) r (plain-mul v (growth-ratio E)) (omega (arith, h .lower));
     }
+
+pub entry-reduction : EntryReduction
+unfolding EntryReduction
+entry-reduction E x z d l g h = ratio-within l (fraction-ratio z d l) g h
+
+-- Plus zero where the rule's y is zero.
+pub zero-within : (E : ℕ) → Within E 0·0 (whole 0)
+zero-within E = ratio-within (lit< tt) (whole-ratio 0) zero-is-good (near-eq (rw (units-zero, zero-mul 1, zero-mul one·units)))
 
 -- ---- the rule
 -- One row of Z·P against Z·Q + D·z.
@@ -182,34 +193,56 @@ inverse-reduction n on A a t c Z z rows apart columns regular =
     }
 
 pub reduction : Reduction
-unfolding Reduction InverseReduction EntryReduction
-reduction n on E A x a t c Z z rows apart columns regular table =
-    let only = inverse-reduction n on A a t c Z z rows apart columns regular in
+unfolding Reduction InverseReduction EntryReduction Apart extended
+reduction n E A x a t c Z z rows columns regular table =
+    let only = inverse-reduction n everyStage A a t c Z z rows (λ i j s l o. absurd o) columns regular in
     record {
       X = λ i j. fraction (z j i) (Z j);
       inverse = only .inverse;
       unique = only .unique;
-      within = λ i j s o. entry-reduction E (x i j) (z j i) (Z j) (columns .positive j o) (table .good i j s o) (table .near i j s o);
+      within = λ i j l m. entry-reduction E (x i j) (z j i) (Z j) (columns .positive j (record { below = m; part = tt })) (table .good i j l m) (table .near i j l m);
     }
 
 -- ---- a system that gets out
-pub system-regular : (n : ℕ) (S : Equations) → AllOut 0 n S → Regular n everyStage (λ i. diag 0 n (S i)) (λ i. S i .size)
-unfolding Regular Comparison mix
-system-regular n S out p q same i s =
-    le-antisymm
-    (comparison 0 n S p q out (λ k l. inr (le-of-eq (same k (stage k l)))) i (omega arith))
-    (comparison 0 n S q p out (λ k l. inr (le-of-eq (sym (same k (stage k l))))) i (omega arith))
-  where
-    stage : (k : ℕ) → In 0 n k → Stage n everyStage k
-    stage k l = record { below = omega arith; part = tt }
+module _ (n : ℕ) (on : ℕ → Bool) (S : Equations) (a : ℕ → ℕ)
+    (diagonal : (i : ℕ) → Stage n on i → diag 0 n (S i) ≡ a i) (apart : Apart n on (λ i. S i .size)) where
+  -- A vector with zeros at the stages that do not take part; a row that takes part does not see the difference.
+  on-these : (ℕ → ℕ) → ℕ → ℕ
+  on-these p k = cond (on k) (p k) 0
+
+  same-mix : (p : ℕ → ℕ) (i : ℕ) → Stage n on i → sum (λ k. S i .size k * on-these p k) 0 n ≡ sum (λ k. S i .size k * p k) 0 n
+  unfolding on-these Apart
+  same-mix p i s =
+      sum-cong (λ k. S i .size k * on-these p k) (λ k. S i .size k * p k) 0 n (λ k l.
+      by-bool (on k)
+      (λ e. rw e)
+      (λ e. let z = apart i k s (omega arith) (rw e tt) in rw (z, zero-mul (on-these p k), zero-mul (p k))))
+
+  module _ (out : AllOut 0 n S) (p q : ℕ → ℕ)
+      (same : (i : ℕ) → Stage n on i → a i * p i + sum (λ k. S i .size k * q k) 0 n ≡ a i * q i + sum (λ k. S i .size k * p k) 0 n) where
+    below : (k : ℕ) → In 0 n k → (on-these p k ≤ on-these q k) ⊎ RowBelow 0 n S (on-these p) (on-these q) k
+    unfolding on-these mix
+    below k l =
+        by-bool (on k)
+        (λ e.
+        let s : Stage n on k = record { below = omega arith; part = rw e tt } in
+        inr (rw (diagonal k s, same-mix q k s, same-mix p k s, e) (le-of-eq (same k s))))
+        (λ e. inl (rw e zero-le))
+
+    pub below-everywhere : (i : ℕ) → Stage n on i → p i ≤ q i
+    unfolding Comparison on-these
+    below-everywhere i s = rw (is-true (on i) (s .part)) at (comparison 0 n S (on-these p) (on-these q) out below i (omega (arith, s .below)))
+
+  pub system-regular : AllOut 0 n S → Regular n on a (λ i. S i .size)
+  unfolding Regular
+  system-regular out p q same i s = le-antisymm (below-everywhere out p q same i s) (below-everywhere out q p (λ i s. sym (same i s)) i s)
 
 pub system-inverse : SystemInverse
-unfolding SystemInverse InverseReduction Apart diag mix
-system-inverse n A S c Z z rows out columns =
-    inverse-reduction n everyStage A (λ i. diag 0 n (S i)) (λ i. S i .size) c Z z rows
-    (λ i j s l o. absurd o)
+unfolding SystemInverse InverseReduction diag mix
+system-inverse n on A S a c Z z rows diagonal apart out columns =
+    inverse-reduction n on A a (λ i. S i .size) c Z z rows apart
     (record {
       positive = λ j s. columns .positive j (s .below);
-      row = λ i j s o. columns .solves j (o .below) .row i (omega arith);
+      row = λ i j s o. rw (← (diagonal i s)) (columns .solves j (o .below) .row i (omega (arith, s .below)));
     })
-    (system-regular n S out)
+    (system-regular n on S a diagonal apart out)

@@ -1,23 +1,28 @@
 -- The rule of each reading from whole numbers: the one inverse of a sheet of reading 1, and the accuracy of a table of reading 2.
+use mathlib.Core.Bool.{Bool}
 use mathlib.Core.List.{List}
+use mathlib.Core.Path.{_≡_}
 use Prim.Native.Nat.{ℕ, _+_, _*_}
 use lib.Ieee.{Float}
 use Rattle.exact.specs.Systems.{Equations, AllOut}
-use Rattle.definitions.specs.Matrix.{matrix, everyStage}
+use Rattle.definitions.specs.Matrix.{matrix, Stage, everyStage}
 use Rattle.definitions.specs.Accuracy.{OnlyInverse, Accurate}
 use Rattle.rounding.specs.Good.{one·units}
-use Rattle.inverse.specs.Reduction.{Columns, fraction, SystemColumns, NearTable}
+use Rattle.inverse.specs.Reduction.{Apart, Columns, fraction, SystemColumns, NearTable}
 use Rattle.inverse.specs.ExactRatios.{H, ExactRatios}
 use Rattle.inverse.specs.RowForms.{InUnits}
 
--- Theorem, reading 1: the sheet's system gets out, and X has its solutions.
+-- Theorem, reading 1, over the stages that take part: a system with the sheet's sizes, and with its leaving rates at these stages,
+-- gets out, and X has its solutions.
 unfoldable pub LeavingRatesInverse : Type 0
 LeavingRatesInverse =
-    (n : ℕ) (sheet : List Float) (S : Equations) (Z : ℕ → ℕ) (z : ℕ → ℕ → ℕ)
-    → InUnits n sheet (λ i. S i .size) (λ i. S i .exit)
+    (n : ℕ) (on : ℕ → Bool) (sheet : List Float) (S : Equations) (s : ℕ → ℕ) (Z : ℕ → ℕ) (z : ℕ → ℕ → ℕ)
+    → InUnits n sheet (λ i. S i .size) s
+    → ((i : ℕ) → Stage n on i → S i .exit ≡ s i)
+    → Apart n on (λ i. S i .size)
     → AllOut 0 n S
     → SystemColumns n S (λ i. one·units) Z z
-    → OnlyInverse n everyStage (matrix 1 n sheet) (λ i j. fraction (z j i) (Z j))
+    → OnlyInverse n on (matrix 1 n sheet) (λ i j. fraction (z j i) (Z j))
 
 -- Theorem, reading 2: the table is near solutions of the rows that the ratios give.
 unfoldable pub MarginsReduced : Type 0
@@ -27,5 +32,5 @@ MarginsReduced =
     → InUnits n sheet t d
     → ExactRatios n t d D K
     → Columns n everyStage (λ i. d i * D + H n t D K i + t i i * D) (λ i j. t i j * D) (λ i. one·units * D) Z z
-    → NearTable n everyStage E x Z z
+    → NearTable n E x Z z
     → Accurate n everyStage E (matrix 2 n sheet) x

@@ -78,32 +78,34 @@ EntryReduction =
     (E : ℕ) (x : Float) (z d : ℕ) → 0 < d → Good x → Near E (units x * d) (z * one·units) → Within E x (fraction z d)
 
 -- Each number of the table is good, and within E roundings of z_ji / Z_j.
-pub record NearTable (n : ℕ) (on : ℕ → Bool) (E : ℕ) (x : ℕ → ℕ → Float) (Z : ℕ → ℕ) (z : ℕ → ℕ → ℕ) : Type 0 where
-  pub good : (i j : ℕ) → Stage n on i → Stage n on j → Good (x i j)
-  pub near : (i j : ℕ) → Stage n on i → Stage n on j → Near E (units (x i j) * Z j) (z j i * one·units)
+pub record NearTable (n E : ℕ) (x : ℕ → ℕ → Float) (Z : ℕ → ℕ) (z : ℕ → ℕ → ℕ) : Type 0 where
+  pub good : (i j : ℕ) → i < n → j < n → Good (x i j)
+  pub near : (i j : ℕ) → i < n → j < n → Near E (units (x i j) * Z j) (z j i * one·units)
 
--- Theorem: the rule of a whole table follows from the two.
+-- Theorem: where every stage takes part, the rule of a whole table follows from the two.
 unfoldable pub Reduction : Type 0
 Reduction =
-    (n : ℕ) (on : ℕ → Bool) (E : ℕ) (A : ℕ → ℕ → Fraction) (x : ℕ → ℕ → Float)
+    (n E : ℕ) (A : ℕ → ℕ → Fraction) (x : ℕ → ℕ → Float)
     (a : ℕ → ℕ) (t : ℕ → ℕ → ℕ) (c : ℕ → ℕ) (Z : ℕ → ℕ) (z : ℕ → ℕ → ℕ)
     → RowForm n A a t c
-    → Apart n on t
-    → Columns n on a t c Z z
-    → Regular n on a t
-    → NearTable n on E x Z z
-    → Accurate n on E A x
+    → Columns n everyStage a t c Z z
+    → Regular n everyStage a t
+    → NearTable n E x Z z
+    → Accurate n everyStage E A x
 
 -- The columns as solutions of one system, whose right side is column j of the identity, times c_i.
 pub record SystemColumns (n : ℕ) (S : Equations) (c : ℕ → ℕ) (Z : ℕ → ℕ) (z : ℕ → ℕ → ℕ) : Type 0 where
   pub positive : (j : ℕ) → j < n → 0 < Z j
   pub solves : (j : ℕ) → j < n → Solves 0 n (withRight S (λ i. delta i j (c i))) (Z j) (z j)
 
--- Theorem: the one inverse of a system that gets out.
+-- Theorem: the one inverse over the stages that take part, from a system that gets out. What the system has in the rows of the
+-- other stages does not matter.
 unfoldable pub SystemInverse : Type 0
 SystemInverse =
-    (n : ℕ) (A : ℕ → ℕ → Fraction) (S : Equations) (c : ℕ → ℕ) (Z : ℕ → ℕ) (z : ℕ → ℕ → ℕ)
-    → RowForm n A (λ i. diag 0 n (S i)) (λ i. S i .size) c
+    (n : ℕ) (on : ℕ → Bool) (A : ℕ → ℕ → Fraction) (S : Equations) (a : ℕ → ℕ) (c : ℕ → ℕ) (Z : ℕ → ℕ) (z : ℕ → ℕ → ℕ)
+    → RowForm n A a (λ i. S i .size) c
+    → ((i : ℕ) → Stage n on i → diag 0 n (S i) ≡ a i)
+    → Apart n on (λ i. S i .size)
     → AllOut 0 n S
     → SystemColumns n S c Z z
-    → OnlyInverse n everyStage A (λ i j. fraction (z j i) (Z j))
+    → OnlyInverse n on A (λ i j. fraction (z j i) (Z j))

@@ -12,7 +12,8 @@ use borrow.Author.Tests.{lt-ltb, eq-eqb, ne-eqb}
 use Rattle.exact.proofs.Cases.{by-equal}
 use Rattle.exact.proofs.Bools.{holds, same-truth, or-assoc, if-in, if-out}
 use Rattle.definitions.specs.Numbers.{_⊗_, _⊘_, 0·0, finite, mulInRange, divInRange, sum, sumInRange, all}
-use Rattle.definitions.specs.Margins.{stagesWith, rank, scaledInRange}
+use Rattle.definitions.specs.Compact.{stagesWith, rank}
+use Rattle.definitions.specs.Margins.{scaledInRange}
 use Rattle.rounding.proofs.RoundedSums.{total-in-range, total-finite}
 use Rattle.steps.proofs.All.{each, every, all-same, each-below, every-below, all-below, all-both}
 use Rattle.steps.proofs.FloatSums.{sum-same}

@@ -11,7 +11,8 @@ use Rattle.exact.proofs.Bools.{and-assoc, holds}
 use mathlib.Core.Bool.{and-false, and-true, Bool, true, false, not, _&&_, _||_}
 use Rattle.definitions.specs.Numbers.{_⊗_, mulInRange, all}
 use Rattle.definitions.specs.LeavingRates.{downward, quotient, inRange}
-use Rattle.definitions.specs.Margins.{rank, keptSystem, y, known, xAfter, ratioInRange, backInRange, joinInRange, everyStep, marginsInRange}
+use Rattle.definitions.specs.Compact.{rank}
+use Rattle.definitions.specs.Margins.{keptSystem, y, known, xAfter, ratioInRange, backInRange, joinInRange, everyStep, marginsInRange}
 use Rattle.steps.proofs.All.{all-below}
 use Rattle.steps.proofs.Same.{Same, same-quotient, same-in-range}
 use Rattle.steps.proofs.MarginsSteps.{y-is, x-start, known-is, entry-is}

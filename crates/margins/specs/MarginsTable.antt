@@ -7,6 +7,7 @@ use lib.Dec.{T}
 use lib.Ieee.{Float}
 use Rattle.definitions.specs.Numbers.{all}
 use Rattle.definitions.specs.LeavingRates.{downward, inRange}
+use Rattle.definitions.specs.Compact.{rank}
 use Rattle.definitions.specs.Margins as Margins
 use Rattle.tables.specs.RowMajor.{IsTable, table}
 use Rattle.ratios.specs.Ratios.{ratio, isKept}
@@ -22,7 +23,7 @@ module _ (n : ℕ) (t : ℕ → ℕ → Float) (d : ℕ → Float) where
 
   abbrev pub engineInRange : Bool
   engineInRange =
-      let r = Margins.rank (isKept n t d) n in
+      let r = rank (isKept n t d) n in
       inRange r (downward r (Margins.keptSystem n t d (ratio n t d)))
 
   abbrev pub wayBackInRange : Bool

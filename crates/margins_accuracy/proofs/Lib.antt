@@ -3,7 +3,6 @@ mod MarginsEntries
 mod MarginsExact
 mod MarginsJoins
 mod MarginsKept
-mod MarginsPacked
 mod MarginsRange
 mod MarginsRatios
 mod MarginsStart

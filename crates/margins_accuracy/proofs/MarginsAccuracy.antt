@@ -5,7 +5,8 @@ use mathlib.Core.Bool.{Bool}
 use mathlib.Core.Path.{_≡_, ap, _∙_}
 use Rattle.exact.specs.Sums.{sum}
 use Rattle.exact.proofs.Near.{near-grow}
-use Rattle.definitions.specs.Margins.{kBefore, kept, rank, entry}
+use Rattle.definitions.specs.Compact.{rank}
+use Rattle.definitions.specs.Margins.{kBefore, kept, entry}
 use Rattle.steps.proofs.MarginsSteps.{k-is, entry-is}
 use Rattle.steps.proofs.CompactOrder.{rank-none, rank-leave, rank-within}
 use Rattle.rates_accuracy.specs.LeavingRatesAccuracy.{Computed, EngineAccuracy}
@@ -56,10 +57,10 @@ margins-from-engine engine n t d D K good in-range ratios =
           };
       table =
           record {
-            good = λ i j si sj. near i j (si .below) (sj .below) .good;
+            good = λ i j bi bj. near i j bi bj .good;
             near =
-                λ i j si sj.
-                near-grow (omega (arith, enough (omega (arith, si .below)))) (near i j (si .below) (sj .below) .near);
+                λ i j bi bj.
+                near-grow (omega (arith, enough (omega arith))) (near i j bi bj .near);
           };
     }
 

@@ -11,7 +11,8 @@ use Rattle.exact.specs.Near.{Near}
 use Rattle.exact.proofs.Sums.{sum-scale}
 use Rattle.exact.proofs.Near.{near-eq, near-sym, near-trans, near-grow, near-scale, near-scale-left, near-sum}
 use Rattle.definitions.specs.Numbers.{_⊗_, _⊘_, 0·0, 1·0, units}
-use Rattle.definitions.specs.Margins.{sumWith, a, kept, known, xAfter, rank}
+use Rattle.definitions.specs.Compact.{rank}
+use Rattle.definitions.specs.Margins.{sumWith, a, kept, known, xAfter}
 use Rattle.rounding.specs.Good.{Good, one·units}
 use Rattle.steps.proofs.MarginsSteps.{known-from, known-below, known-next, x-kept, join-corner, join-row, join-column, join-other}
 use Rattle.rates_accuracy.specs.LeavingRatesAccuracy.{Computed, EngineAccuracy}

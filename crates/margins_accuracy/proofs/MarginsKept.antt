@@ -19,7 +19,8 @@ use Rattle.exact.proofs.Elimination.{existence}
 use Rattle.exact.proofs.Perturbation.{all-rows, near-out, near-row-sym}
 use Rattle.definitions.specs.Numbers.{_⊗_, _⊘_, 0·0, sum, units}
 use Rattle.definitions.specs.LeavingRates.{downward, quotient}
-use Rattle.definitions.specs.Margins.{rank, a, kept, keptSystem, y, xAfter}
+use Rattle.definitions.specs.Compact.{rank}
+use Rattle.definitions.specs.Margins.{a, kept, keptSystem, y, xAfter}
 use Rattle.rounding.specs.Good.{Good, one·units}
 use Rattle.steps.proofs.MarginsSteps.{kept-size, kept-exit, y-is, x-start}
 use Rattle.steps.proofs.CompactOrder.{rank-below, stage-of-rank, Listed, listed}
@@ -30,7 +31,7 @@ use Rattle.rounding.proofs.Laws.{one-pos, product-good, product-rounds, quotien
 use Rattle.margins_accuracy.proofs.MarginsCounts.{hCount, systemCount, answerCount, product-count, size-count, exit-count}
 use Rattle.margins_accuracy.proofs.MarginsExact.{exactA, exitSum, keptRows, a-pos, k-rest, k-zero, h-zero, kept-out}
 use Rattle.margins_accuracy.proofs.MarginsStart.{rightSide, over, answer, answer-solves, share, startOver, start-over, startTable, start-kept}
-use Rattle.margins_accuracy.proofs.MarginsPacked.{stage, packed, packed-solves, packed-out, stage-apart}
+use Rattle.rates_accuracy.proofs.CompactEquations.{stage, packed, packed-solves, packed-out, stage-apart}
 use Rattle.margins_accuracy.proofs.MarginsSums.{near-sum-over}
 use Rattle.margins_accuracy.proofs.MarginsRange.{ScaledRange}
 use Rattle.rates_accuracy.proofs.LeavingRatesRange.{table-shared, table-column}

@@ -10,7 +10,8 @@ use lib.Ieee.Fits.{and-l, and-r}
 use borrow.Author.Tests.{ne-eqb}
 use Rattle.definitions.specs.Numbers.{_⊗_, _⊘_, 0·0, 1·0, addInRange, mulInRange, divInRange, sum, sumInRange, all}
 use Rattle.definitions.specs.LeavingRates.{downward, inRange}
-use Rattle.definitions.specs.Margins.{rank, sumWithInRange, kBefore, h, a, kept, keptSystem, y, known, xAfter, ratioInRange, scaledInRange, backInRange, joinInRange, everyStep, marginsInRange}
+use Rattle.definitions.specs.Compact.{rank}
+use Rattle.definitions.specs.Margins.{sumWithInRange, kBefore, h, a, kept, keptSystem, y, known, xAfter, ratioInRange, scaledInRange, backInRange, joinInRange, everyStep, marginsInRange}
 use Rattle.exact.proofs.Bools.{if-out}
 use Rattle.steps.proofs.All.{each}
 

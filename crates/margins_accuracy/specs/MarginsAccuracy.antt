@@ -29,7 +29,7 @@ pub record MarginsInverse (E n : ℕ) (t : ℕ → ℕ → Float) (d : ℕ → F
   pub columns :
       Columns n everyStage (λ i. units (d i) * D + H n (sizesInUnits t) D K i + units (t i i) * D) (λ i j. units (t i j) * D)
       (λ i. one·units * D) Z z
-  pub table : NearTable n everyStage E (entry n t d) Z z
+  pub table : NearTable n E (entry n t d) Z z
 
 -- Theorem: if every step is in range, each entry is within 12n³ roundings.
 unfoldable pub MarginsAccuracy : Type 0

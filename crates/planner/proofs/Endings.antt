@@ -7,12 +7,12 @@ use mathlib.Core.List.{List, _++_}
 use lib.ListN.{length, drop}
 use lib.Ieee.{Float}
 use Rattle.definitions.specs.Fractions.{Fraction}
-use Rattle.definitions.specs.Sheet.{place, allowance}
+use Rattle.definitions.specs.Sheet.{place, takesPart, allowance}
 use Rattle.definitions.specs.Tables.{rows}
 use Rattle.definitions.specs.Table.{entry}
-use Rattle.definitions.specs.Matrix.{matrix, everyStage}
+use Rattle.definitions.specs.Matrix.{matrix}
 use Rattle.definitions.specs.Questions.{pass, refuse, _then_, question1, question2, question3, question4, question5, question10, numberQuestions, tableInput, tableQuestions, entryInput, entryQuestions}
-use Rattle.definitions.specs.Accuracy.{Binary64, Within, Accurate}
+use Rattle.definitions.specs.Accuracy.{Binary64, Within, extended, Accurate}
 use Rattle.definitions.specs.Services.{given, answer, filled, table, tableAnswer, tableArea, entryAnswer}
 use Rattle.tables.specs.RowMajor as working
 use Rattle.steps.proofs.TableLaws.{length-rows, rows-same, place-of-rows}
@@ -30,12 +30,12 @@ use Rattle.exact.proofs.Bools.{holds}
 -- Demand 3 looks only at the entries below n.
 accurate-same : {n E : ℕ} {on : ℕ → Bool} {A : ℕ → ℕ → Fraction} {x : ℕ → ℕ → Float} (y : ℕ → ℕ → Float)
     → ((i j : ℕ) → i < n → j < n → x i j ≡ y i j) → Accurate n on E A x → Accurate n on E A y
-accurate-same {n} {E} y e a =
+accurate-same {n} {E} {on} y e a =
     record {
       X = a .X;
       inverse = a .inverse;
       unique = a .unique;
-      within = λ i j si sj. subst (λ z. Within E z (a .X i j)) (e i j (si .below) (sj .below)) (a .within i j si sj);
+      within = λ i j hi hj. subst (λ z. Within E z (extended on (a .X) i j)) (e i j hi hj) (a .within i j hi hj);
     }
 
 module _ (reading n : ℕ) (sheet : List Float) where
@@ -61,7 +61,7 @@ module _ (reading n : ℕ) (sheet : List Float) where
       unfolding tableQuestions
       table-out-of-range e = refused-with (out-of-range reading n sheet passed (stepped .range) e)
 
-      table-accurate : Binary64 sheet → ok ≡ true → Accurate n everyStage (allowance reading n) (matrix reading n sheet) (entry reading n sheet)
+      table-accurate : Binary64 sheet → ok ≡ true → Accurate n (takesPart reading n sheet) (allowance reading n) (matrix reading n sheet) (entry reading n sheet)
       unfolding tableInput
       table-accurate fit e =
           accurate-table reading n sheet fit
@@ -106,7 +106,7 @@ module _ (reading n : ℕ) (sheet : List Float) where
       unfolding entryQuestions
       entry-out-of-range e = entry-refused-with (out-of-range reading n sheet passed (stepped .range) e)
 
-      entry-accurate : Binary64 sheet → ok ≡ true → Accurate n everyStage (allowance reading n) (matrix reading n sheet) (entry reading n sheet)
+      entry-accurate : Binary64 sheet → ok ≡ true → Accurate n (takesPart reading n sheet) (allowance reading n) (matrix reading n sheet) (entry reading n sheet)
       unfolding entryInput
       entry-accurate fit e =
           accurate-table reading n sheet fit

@@ -4,9 +4,9 @@ use Prim.Native.Nat.{ℕ}
 use mathlib.Core.List.{List}
 use lib.ListN.{length}
 use lib.Ieee.{Float}
-use Rattle.definitions.specs.Sheet.{place, allowance}
+use Rattle.definitions.specs.Sheet.{place, takesPart, allowance}
 use Rattle.definitions.specs.Table.{entry}
-use Rattle.definitions.specs.Matrix.{matrix, everyStage}
+use Rattle.definitions.specs.Matrix.{matrix}
 use Rattle.definitions.specs.Questions.{pass, tableQuestions, entryQuestions}
 use Rattle.definitions.specs.Accuracy.{Accurate}
 use Rattle.definitions.specs.Services.{tableAnswer, tableArea, entryAnswer}
@@ -19,10 +19,10 @@ pub record TableDone (reading n : ℕ) (sheet before after : List Float) (r : Fi
   pub answered : filledGiven r ≡ tableAnswer reading n sheet (length before)
   pub area : after ≡ tableArea reading n sheet before
   pub accurate : tableQuestions reading n sheet (length before) ≡ pass
-      → Accurate n everyStage (allowance reading n) (matrix reading n sheet) (place n after)
+      → Accurate n (takesPart reading n sheet) (allowance reading n) (matrix reading n sheet) (place n after)
 
 -- One entry: the answer r, and for an accepted call demand 3 of the table whose entry it is.
 pub record EntryDone (reading n : ℕ) (sheet : List Float) (i j : ℕ) (r : Entry) : Type 0 where
   pub answered : entryGiven r ≡ entryAnswer reading n sheet i j
   pub accurate : entryQuestions reading n sheet i j ≡ pass
-      → Accurate n everyStage (allowance reading n) (matrix reading n sheet) (entry reading n sheet)
+      → Accurate n (takesPart reading n sheet) (allowance reading n) (matrix reading n sheet) (entry reading n sheet)

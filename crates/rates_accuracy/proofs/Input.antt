@@ -1,33 +1,30 @@
--- What the questions leave: an accepted sheet has good sizes and good diagonals; under reading 1 it gets out, under reading 2 its
--- diagonals are positive.
-use Prim.Native.Nat.{ℕ, zero, suc, _+_, _*_, _<_}
-use mathlib.Core.Bool.{Bool, true, false, not, cond}
+-- What the questions leave: an accepted sheet has good sizes and good diagonals; under reading 1 its moves and exits are numbers that
+-- are not zero, under reading 2 its diagonals are positive.
+use Prim.Native.Nat.{ℕ, zero, suc, _+_, _-_, _*_, _<_}
+use mathlib.Core.Bool.{Bool, true, false, not, _&&_, cond}
 use mathlib.Core.List.{List}
 use mathlib.Core.Path.{_≡_, refl}
 use mathlib.Core.Logic.{_≢_}
 use native.Mathlib.Omega.{arith}
-use lib.Dec.{T, eqb, ltb, lt→ltb, ltb→lt}
+use lib.Dec.{T, leb, eqb, ltb, leb→le, lt→ltb, ltb→lt}
 use lib.ListN.{length}
 use lib.Ieee.{Float, nan, inf, fin, binary64, fits, lt, le, eq}
 use borrow.Author.Tests.{eq-eqb, ne-eqb}
-use lib.Ieee.Fits.{and-r}
+use lib.Ieee.Fits.{and-l, and-r}
 use Rattle.exact.specs.Chains.{In}
-use Rattle.exact.proofs.Chains.{gets-out-mono}
 use Rattle.exact.proofs.Bools.{or-l}
 use Rattle.definitions.specs.Numbers.{0·0, finite, isZero, units}
-use Rattle.definitions.specs.Sheet.{place, size, diagonal, system}
+use Rattle.definitions.specs.Sheet.{place, size, diagonal}
 use Rattle.definitions.specs.Accuracy.{Binary64}
-use Rattle.definitions.specs.Questions.{Asked, pass, _then_, question1, question2, question3, question4, question5, question6, rightSign, question7, question8, moves, leaves, getsOut, question9, numberQuestions, tableInput, entryInput}
-use Rattle.definitions.specs.Column.{columnShape, columnInput}
+use Rattle.definitions.specs.Questions.{Asked, pass, _then_, question1, question2, question3, question4, question5, question6, rightSign, question7, question8, moves, leaves, question9, numberQuestions, tableInput, entryInput}
+use Rattle.definitions.specs.Column.{columnReading, columnShape, columnInput}
 use Rattle.rounding.specs.Good.{Good}
 use Rattle.rounding.proofs.Laws.{zero-is-good, units-zero, is-zero}
 use Rattle.rounding.proofs.Order.{lt-units}
 use Rattle.rounding.proofs.Reversed.{le-not-above}
 use Rattle.rounding.proofs.Zeros.{IsSize, plus-zero, size-of-negative, size-of-positive}
-use Rattle.steps.proofs.Trapped.{out-decided}
 use Rattle.steps.proofs.Sizes.{size-at, diagonal-at}
-use Rattle.steps.proofs.QuestionLaws.{then-first, then-next, rows-yes, stages-yes}
-use Rattle.rates_accuracy.specs.LeavingRatesAccuracy.{GoodSystem, StagesGetOut}
+use Rattle.steps.proofs.QuestionLaws.{then-first, then-next, ask-yes, rows-yes}
 
 -- The questions of the numbers come last, whichever service asks.
 after-four : (a b c d x : Asked) → (a then b then c then d then x) ≡ pass → x ≡ pass
@@ -50,6 +47,16 @@ pub column-numbers :
     (reading n : ℕ) (sheet : List Float) (room stage : ℕ) → columnInput reading n sheet room stage ≡ pass → numberQuestions 1 n sheet ≡ pass
 unfolding columnInput
 column-numbers reading n sheet room stage = then-next (columnShape reading n (length sheet) room stage) (numberQuestions 1 n sheet)
+
+pub column-stage : (reading n : ℕ) (sheet : List Float) (room stage : ℕ) → columnInput reading n sheet room stage ≡ pass → stage - 1 < n
+unfolding columnInput columnShape question5
+column-stage reading n sheet room stage e =
+    let inside = leb 1 stage && leb stage n in
+    let five =
+    after-four (columnReading reading) (question2 n) (question3 n (length sheet)) (question4 n room) (question5 n stage stage)
+    (then-first (columnShape reading n (length sheet) room stage) (numberQuestions 1 n sheet) e) in
+    let t = and-l inside inside (ask-yes (inside && inside) 5 0 0 five) in
+    omega (arith, leb→le 1 stage (and-l (leb 1 stage) (leb stage n) t), leb→le stage n (and-r (leb 1 stage) (leb stage n) t))
 
 less-or-equal : (x y : Float) → T (lt x y) → T (le x y)
 unfolding le
@@ -84,7 +91,7 @@ module _ (reading n : ℕ) (sheet : List Float) (fit : Binary64 sheet) (e : numb
       rows-yes (rightSign reading n sheet) 7 n
       (then-first (question7 reading n sheet) (question8 n sheet then question9 reading n sheet) after-finite)
 
-  last-question : question9 reading n sheet ≡ pass
+  pub last-question : question9 reading n sheet ≡ pass
   last-question =
       then-next (question8 n sheet) (question9 reading n sheet)
       (then-next (question7 reading n sheet) (question8 n sheet then question9 reading n sheet) after-finite)
@@ -111,14 +118,6 @@ module _ (reading n : ℕ) (sheet : List Float) (fit : Binary64 sheet) (e : numb
       either true t = t
       either false t = less-or-equal 0·0 (place n sheet i i) t
 
-  pub input-good : GoodSystem zero n (system n sheet)
-  unfolding system
-  input-good =
-      record {
-        size = λ i j hi hj d. size-is i j (omega arith) (omega arith) d .good;
-        exit = λ i h. diagonal-is i (omega arith) .good;
-      }
-
 -- Reading 2: positive diagonals.
 pub input-positive :
     (n : ℕ) (sheet : List Float) → Binary64 sheet → numberQuestions 2 n sheet ≡ pass
@@ -130,25 +129,15 @@ input-positive n sheet fit e i h =
     let g = positive-good x (fit (i * n + i)) (number-finite 2 n sheet fit e i i h h) l in
     rw (diagonal-at n sheet i h, plus-zero g) (ltb→lt 0 (units x) (rw (lt-units zero-is-good g, units-zero) at l))
 
--- Reading 1: chains of moves are chains of nonzero sizes, so the system gets out.
+-- Reading 1: moves are nonzero sizes, and exits nonzero leaving rates.
 module _ (n : ℕ) (sheet : List Float) (fit : Binary64 sheet) (e : numberQuestions 1 n sheet ≡ pass) where
-  move-kept : (i j : ℕ) → In zero n i → In zero n j → i ≢ j → T (moves n sheet i j) → T (ltb zero (units (size n sheet i j)))
+  pub move-kept : (i j : ℕ) → In zero n i → In zero n j → i ≢ j → T (moves n sheet i j) → T (ltb zero (units (size n sheet i j)))
   unfolding moves
   move-kept i j hi hj d t =
       let x = size n sheet i j in
       let g = size-is 1 n sheet fit e i j (omega arith) (omega arith) d .good in
       lt→ltb zero (units x) (not-zero-pos (units x) (rw (is-zero g) at (and-r (not (eqb i j)) (not (isZero x)) t)))
 
-  exit-kept : (i : ℕ) → In zero n i → T (leaves n sheet i) → T (ltb zero (units (diagonal n sheet i)))
+  pub exit-kept : (i : ℕ) → In zero n i → T (leaves n sheet i) → T (ltb zero (units (diagonal n sheet i)))
   unfolding leaves
   exit-kept i h t = rw (lt-units zero-is-good (diagonal-is 1 n sheet fit e i (omega arith) .good), units-zero) at t
-
-  pub input-out : StagesGetOut zero n (system n sheet)
-  unfolding system question9
-  input-out =
-      let asked = stages-yes (getsOut n sheet) 9 n (last-question 1 n sheet fit e) in
-      record {
-        out =
-            λ i l.
-            gets-out-mono move-kept exit-kept l (out-decided n sheet i (omega arith) .0 (asked i (omega arith)));
-      }

@@ -7,3 +7,5 @@ mod LeavingRatesUpward
 pub mod LeavingRatesAccuracy
 pub mod Pivots
 pub mod Input
+pub mod CompactEquations
+pub mod LiveSystem

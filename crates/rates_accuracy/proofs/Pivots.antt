@@ -11,12 +11,13 @@ use Rattle.exact.proofs.Near.{near-sym, near-pos}
 use Rattle.exact.proofs.Elimination.{elimination-gets-out}
 use Rattle.definitions.specs.Numbers.{isZero, units}
 use Rattle.definitions.specs.LeavingRates.{System, downward, pivotInRange, p, sharedBefore}
-use Rattle.definitions.specs.Sheet.{system}
+use Rattle.definitions.specs.Table.{liveCount, liveSystem, liveBegun}
 use Rattle.rounding.specs.Good.{Good}
 use Rattle.rounding.proofs.Laws.{is-zero}
 use Rattle.rates_accuracy.specs.LeavingRatesAccuracy.{inUnits, GoodSystem, StagesGetOut}
 use Rattle.rates_accuracy.specs.Pivots.{NoPivotIsZeroInSystems, NoPivotIsZero}
-use Rattle.rates_accuracy.proofs.Input.{table-numbers, input-good, input-out}
+use Rattle.rates_accuracy.proofs.Input.{table-numbers}
+use Rattle.rates_accuracy.proofs.LiveSystem.{live-good, live-out}
 use Rattle.rates_accuracy.proofs.PivotErrors.{finite-in-range, pivot-good, pivot-near}
 use Rattle.rates_accuracy.proofs.LeavingRatesStages.{stages-good, stages-out}
 use Rattle.rounding.proofs.Finite.{zero-finite}
@@ -59,9 +60,9 @@ no-pivot-is-zero-in-systems r start g o k h t =
       good = good-pivot r start g o k t k (r - suc k) e (le-refl k);
     }
 
--- A sheet that passes the questions is such a system.
+-- The stages of a sheet that passes the questions, without the idle ones, are such a system.
 pub no-pivot-is-zero : NoPivotIsZero
-unfolding NoPivotIsZero NoPivotIsZeroInSystems
+unfolding NoPivotIsZero NoPivotIsZeroInSystems liveCount liveBegun
 no-pivot-is-zero n sheet fit e =
     let numbers = table-numbers 1 n sheet (n * n) e in
-    no-pivot-is-zero-in-systems n (system n sheet) (input-good 1 n sheet fit numbers) (input-out n sheet fit numbers)
+    no-pivot-is-zero-in-systems (liveCount n sheet) (liveSystem n sheet) (live-good n sheet fit numbers) (live-out n sheet fit numbers)

@@ -7,7 +7,7 @@ use lib.Dec.{T}
 use lib.Ieee.{Float}
 use Rattle.definitions.specs.Numbers.{isZero}
 use Rattle.definitions.specs.LeavingRates.{System, downward, pivotInRange, p, sharedBefore}
-use Rattle.definitions.specs.Sheet.{system}
+use Rattle.definitions.specs.Table.{liveCount, liveBegun}
 use Rattle.definitions.specs.Questions.{pass, tableInput}
 use Rattle.definitions.specs.Accuracy.{Binary64}
 use Rattle.rounding.specs.Good.{Good}
@@ -24,8 +24,9 @@ NoPivotIsZeroInSystems =
     (r : ℕ) (start : System) → GoodSystem zero r start → StagesGetOut zero r start
     → (k : ℕ) → k < r → T (sharedBefore r (downward r start) k) → PivotHolds r (downward r start) k
 
--- Theorem, for every sheet that passes questions 1 to 9 under reading 1.
+-- Theorem, for the system that goes through the steps of a sheet that passes questions 1 to 9 under reading 1.
 unfoldable pub NoPivotIsZero : Type 0
 NoPivotIsZero =
     (n : ℕ) (sheet : List Float) → Binary64 sheet → tableInput 1 n sheet (n * n) ≡ pass
-    → (k : ℕ) → k < n → T (sharedBefore n (downward n (system n sheet)) k) → PivotHolds n (downward n (system n sheet)) k
+    → (k : ℕ) → k < liveCount n sheet → T (sharedBefore (liveCount n sheet) (liveBegun n sheet) k)
+    → PivotHolds (liveCount n sheet) (liveBegun n sheet) k

@@ -15,10 +15,12 @@ use lib.Ieee.Scale.{round-same}
 use lib.Ieee as Ieee
 use borrow.Author.Tests.{le-ltb}
 use Rattle.exact.proofs.Bools.{or-l, or-r}
-use Rattle.definitions.specs.Numbers.{_⊕_, _⊗_, _⊘_, 0·0, smallest, finite, isZero, mulInRange}
+use Rattle.definitions.specs.Numbers.{_⊕_, _⊗_, _⊘_, 0·0, smallest, finite, isZero, addInRange, mulInRange, addProductInRange, units}
 use Rattle.rounding.specs.Good.{Good}
-use Rattle.rounding.proofs.Value.{amount, value, by-parts}
+use Rattle.rounding.proofs.Value.{amount, amount-of-value, value, by-parts}
 use Rattle.rounding.proofs.Round.{round-back}
+use Rattle.rounding.proofs.Laws.{units-is, zero-is-good}
+use Rattle.rounding.proofs.Finite.{zero-finite}
 
 -- ---- a factor that is zero
 module _ (m y : Float) where
@@ -73,6 +75,15 @@ module _ (s : Bool) (n : ℕ) (e : ℤ) where
       let q : n * up e * 1 ≡ 0 = omega arith in
       and-i (eqb (n * up e * 1) (0 * 1 * down e)) (Bool·beq s false || eqb (n * up e * 1) 0) (eq→eqb p) (or-r (Bool·beq s false) (eqb (n * up e * 1) 0) (eq→eqb q))
 
+pub zero-units : (x : Float) → T (isZero x) → units x ≡ 0
+unfolding isZero eq
+zero-units nan t = absurd t
+zero-units (inf s) t = absurd t
+zero-units (fin s n e) t =
+    units-is (fin s n e)
+    ∙ amount-of-value binary64 (fin s n e) s 0
+    (refl, ap (λ (a : ℕ). a * 2 ^ low binary64) (zero-amount s n e t) ∙ zero-mul (2 ^ low binary64) ∙ sym (zero-mul (down e)))
+
 round-zero : (s : Bool) (c : ℕ) → 0 < c → T (isZero (round binary64 s 0 c))
 round-zero s c C = from (round binary64 s 0 c) (round-exact binary64 s 0 c 0 0 C (pow-pos (prec binary64)) (pow-pos (low binary64 + suc (emax binary64))) (zero-mul (2 ^ low binary64) ∙ sym (zero-mul c)))
   where
@@ -124,6 +135,14 @@ times-plus-zero (fin s n e) t = rw (mul-zero (n * up e)) (round-zero (unlike s f
 pub zero-other : {x y : Float} (m : Float) → Good x → T (finite m) → y ≡ 0·0 → x ⊕ m ⊗ y ≡ x
 zero-other m g t e = rw e (plus-zero-of-sign (m ⊗ 0·0) g (times-plus-zero m t))
 
+-- Zeros go through a step as zeros, whatever the finite multiplier.
+pub zero-step : (m : Float) → T (finite m) → T (addProductInRange 0·0 m 0·0)
+unfolding addProductInRange addInRange finite
+zero-step m t =
+    let z = times-plus-zero m t in
+    and-i (mulInRange m 0·0) (finite (0·0 ⊕ m ⊗ 0·0)) (any-zero-in-range m 0·0 (or-r (isZero m) (isZero 0·0) (amount-zero false 0 (pos 0) refl)) (zero-finite (m ⊗ 0·0) z))
+    (rw (zero-other {x = 0·0} m zero-is-good t refl) tt)
+
 -- A divisor that is zero gives no finite quotient.
 over-number : (k : ℕ) (x y : Float) → (T (finite x) → ⊥) → (0 < k → T (isZero y)) → T (finite (cond (eqb k 0) x y)) → T (isZero (cond (eqb k 0) x y))
 over-number zero x y p q t = absurd (p t)
@@ -146,3 +165,24 @@ zero-quotient (fin s n e) (fin r k d) z t =
     neither : (b : Bool) → T (finite (cond b nan (inf (unlike s r)))) → ⊥
     neither true u = u
     neither false u = u
+
+-- So a divisor with a finite quotient divides zero too.
+pub zero-over-finite : (x p : Float) → T (finite (x ⊘ p)) → T (finite (0·0 ⊘ p))
+unfolding div finite
+zero-over-finite nan p t = absurd t
+zero-over-finite (inf s) nan t = absurd t
+zero-over-finite (inf s) (inf r) t = absurd t
+zero-over-finite (inf s) (fin r k d) t = absurd t
+zero-over-finite (fin s n e) nan t = absurd t
+zero-over-finite (fin s n e) (inf r) t = tt
+zero-over-finite (fin s n e) (fin r k d) t = over k t
+  where
+    neither : (b : Bool) → T (finite (cond b nan (inf (unlike s r)))) → ⊥
+    neither true u = u
+    neither false u = u
+
+    over : (k : ℕ) → T (finite (fin s n e ⊘ fin r k d)) → T (finite (0·0 ⊘ fin r k d))
+    over zero t = absurd (neither (eqb n 0) t)
+    over (suc k) t =
+        rw (eqb·suc-zero k, zero-mul (down d))
+        (zero-finite (round binary64 (unlike false r) 0 (suc k * up d * 1)) (round-zero (unlike false r) (suc k * up d * 1) (mul-pos (mul-pos (zero-lt-suc k) (up-pos d)) (zero-lt-suc 0))))

@@ -11,7 +11,7 @@ use borrow.Author.Tests.{lt-ltb}
 use Rattle.exact.proofs.Cases.{by-equal, by-bool}
 use mathlib.Core.Bool.{or-true, or-false, Bool, true, false, not, _&&_, _||_}
 use Rattle.definitions.specs.Numbers.{_⊘_, divInRange, all}
-use Rattle.definitions.specs.Margins.{rank}
+use Rattle.definitions.specs.Compact.{rank}
 use Rattle.steps.proofs.CompactOrder.{rank-none, rank-take, rank-leave}
 use Rattle.tables.specs.Operators.{replace}
 use Rattle.tables.specs.Vectors.{IsVector, vector, VectorHolds}

@@ -2,23 +2,30 @@
 use mathlib.Core.Path.{_≡_, sym, _∙_}
 use Prim.Native.Nat.{ℕ, _*_, _-_, _≤_, _<_}
 use native.Mathlib.Omega.{arith}
+use mathlib.Core.Bool.{_&&_, _||_}
 use mathlib.Core.List.{List}
 use lib.Dec.{T}
 use lib.ListN.{length, getD, drop}
-use lib.Ieee.{Float, nan}
+use lib.Ieee.{Float, nan, lt}
 use lib.Ieee.Bits.{is-true}
 use lib.Ieee.Fits.{and-i, and-l, and-r}
 use borrow.Author.Tests.{le-leb}
-use Rattle.definitions.specs.Numbers.{all}
-use Rattle.definitions.specs.LeavingRates.{downward, shared, column, inRange}
-use Rattle.definitions.specs.Sheet.{place, system}
+use Rattle.exact.proofs.Cases.{by-bool}
+use Rattle.definitions.specs.Numbers.{_⊘_, smallest, finite, isZero, divInRange, all}
+use Rattle.definitions.specs.LeavingRates.{System, downward, p, solved, shared, columnBefore, columnUpward, column, inRange}
+use Rattle.definitions.specs.Compact.{rank}
+use Rattle.definitions.specs.Sheet.{place, takesPart}
 use Rattle.definitions.specs.Tables.{list, rows}
-use Rattle.definitions.specs.Table.{entry, everyStepInRange}
+use Rattle.definitions.specs.Table.{liveCount, liveSystem, liveBegun, entry, everyStepInRange}
 use Rattle.definitions.specs.Questions.{pass, _then_, question1, question2, question3, question4, question5, question10, numberQuestions, tableInput, tableQuestions}
 use Rattle.definitions.specs.Services.{table, tableArea}
-use Rattle.definitions.specs.Column.{columnReading, columnShape, columnInput, columnInRange, columnQuestions, stageColumn, columnArea}
+use Rattle.definitions.specs.Column.{columnReading, columnShape, columnInput, columnOf, columnInRange, columnQuestions, stageColumn, columnArea}
 use Rattle.steps.specs.ColumnOfTable.{ColumnOfTable}
+use Rattle.rounding.proofs.AnyNumbers.{zero-over-finite}
 use Rattle.steps.proofs.All.{each-below}
+use Rattle.steps.proofs.CompactOrder.{rank-below}
+use Rattle.steps.proofs.LiveStages.{live-count, steps-in-range, column-of-live, column-of-idle}
+use Rattle.steps.proofs.ZeroColumn.{zero-column}
 use Rattle.steps.proofs.QuestionLaws.{then-first, then-next, ask-yes}
 use Rattle.steps.proofs.TableLaws.{place-of-list, place-of-rows}
 
@@ -34,12 +41,30 @@ module _ (n : ℕ) (sheet : List Float) (room : ℕ) (accepted : tableQuestions 
         then-next (question4 (n * n) room) (numberQuestions 1 n sheet) (then-next (question3 n (length sheet)) (question4 (n * n) room then numberQuestions 1 n sheet) rest),
       )
 
+  module _ (r : ℕ) (at : ℕ → System) (t : T (inRange r at)) where
+    its-column : (q : ℕ) → q < r → T (column r at q)
+    unfolding inRange
+    its-column q l = each-below r (column r at) (and-r (shared r at) (all (column r at) 0 r) t) q l
+
+    -- Zeros go through where some column does.
+    no-column : T (column r at r)
+    unfolding inRange column divInRange
+    no-column =
+        zero-column r at (and-l (shared r at) (all (column r at) 0 r) t) (λ i l.
+        let last = each-below r (λ k. divInRange (solved r at i k) (p r at k)) (and-r (columnBefore r at i r && columnUpward r at i r) (all (λ k. divInRange (solved r at i k) (p r at k)) 0 r) (its-column i l)) i l in
+        let q = solved r at i i ⊘ p r at i in
+        zero-over-finite (solved r at i i) (p r at i) (and-l (finite q) (isZero (solved r at i i) || isZero (p r at i) || lt smallest q) last))
+
   in-range : (j : ℕ) → j < n → T (columnInRange n sheet j)
-  unfolding tableQuestions question10 everyStepInRange inRange columnInRange
+  unfolding tableQuestions question10 columnInRange liveBegun inRange
   in-range j l =
-      let at = downward n (system n sheet) in
-      let t = ask-yes (everyStepInRange 1 n sheet) 10 0 0 (then-next (tableInput 1 n sheet room) (question10 1 n sheet) accepted) in
-      and-i (shared n at) (column n at j) (and-l (shared n at) (all (column n at) 0 n) t) (each-below n (column n at) (and-r (shared n at) (all (column n at) 0 n) t) j l)
+      let r = liveCount n sheet in
+      let at = downward r (liveSystem n sheet) in
+      let t = rw (steps-in-range n sheet) at (ask-yes (everyStepInRange 1 n sheet) 10 0 0 (then-next (tableInput 1 n sheet room) (question10 1 n sheet) accepted)) in
+      and-i (shared r at) (column r at (columnOf n sheet j)) (and-l (shared r at) (all (column r at) 0 r) t)
+      (by-bool (takesPart 1 n sheet j)
+      (λ e. rw (column-of-live n sheet j e) (its-column r at t (rank (takesPart 1 n sheet) j) (rw (live-count n sheet) (rank-below (takesPart 1 n sheet) n j l e))))
+      (λ e. rw (column-of-idle n sheet j e) (no-column r at t)))
 
   column-accepted : (free stage : ℕ) → 1 ≤ stage → stage ≤ n → n ≤ free → columnQuestions 1 n sheet free stage ≡ pass
   unfolding columnQuestions columnInput columnShape columnReading question4 question5

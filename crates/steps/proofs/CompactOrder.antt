@@ -1,8 +1,8 @@
--- Compact order: the listed stages rise, a stage's rank is its place in the list, and both ways lead back.
+-- Compact order: the listed stages rise, a stage's rank is its place in the list, and both ways lead back; and a system in it.
 use Prim.Native.Nat.{ℕ, zero, suc, _+_, _-_, _<_, _≤_}
 use mathlib.Core.Bool.{Bool, true, false}
 use mathlib.Core.List.{[], _∷_, _++_, append-nil}
-use mathlib.Core.Path.{_≡_, refl, ap, _∙_}
+use mathlib.Core.Path.{_≡_, refl, sym, ap, _∙_}
 use native.Mathlib.Nat.{add-zero, add-suc, le-refl, le-trans}
 use native.Mathlib.Numerals.{add-one}
 use native.Mathlib.Decide.{decLt}
@@ -10,7 +10,10 @@ use native.Mathlib.Omega.{arith}
 use lib.ListN.{length, getD, length-append, List·getD-append}
 use lib.Seq.{getD-at}
 use Rattle.exact.proofs.Cases.{by-bool}
-use Rattle.definitions.specs.Margins.{stagesWith, rank}
+use Rattle.definitions.specs.Numbers.{0·0}
+use Rattle.definitions.specs.LeavingRates.{System}
+use Rattle.definitions.specs.Compact.{stagesWith, rank, compact}
+use Rattle.steps.proofs.TableLaws.{stored-at, storedTable-at}
 
 module _ (test : ℕ → Bool) where
   pub list-take : (n : ℕ) → test n ≡ true → stagesWith test (suc n) ≡ stagesWith test n ++ (n ∷ [])
@@ -80,6 +83,29 @@ module _ (test : ℕ → Bool) where
       let g : rank test i < rank test (suc i) = omega arith in
       let longer = rw e at (list-longer (suc i) (n - suc i) (rank test i) g) in
       longer ∙ ap (λ l. getD l (rank test i) 0) (list-take i t) ∙ getD-at (stagesWith test i) i [] 0 (rank test i) (rank-length i)
+
+  -- Where every stage passes, each stands at its own place.
+  pub rank-every : (n : ℕ) → ((i : ℕ) → i < n → test i ≡ true) → rank test n ≡ n
+  rank-every zero h = rank-none
+  rank-every (suc n) h = rank-take n (h n (omega arith)) ∙ ap suc (rank-every n (λ i l. h i (omega arith)))
+
+  pub stage-every : (n : ℕ) → ((i : ℕ) → i < n → test i ≡ true) → (i : ℕ) → i < n → getD (stagesWith test n) i 0 ≡ i
+  stage-every n h i l =
+      ap (λ q. getD (stagesWith test n) q 0) (sym (rank-every i (λ k m. h k (omega arith)))) ∙ stage-of-rank n i l (h i l)
+
+  -- The numbers of the listed stages.
+  pub compact-size :
+      (n : ℕ) (a : System) (p q : ℕ) → p < rank test n → q < rank test n
+      → compact (stagesWith test n) a .t p q ≡ a .t (getD (stagesWith test n) p 0) (getD (stagesWith test n) q 0)
+  unfolding compact rank
+  compact-size n a p q bp bq =
+      let s = stagesWith test n in
+      storedTable-at 0·0 (length s) (λ i j. a .t (getD s i 0) (getD s j 0)) p q bp bq
+
+  pub compact-exit :
+      (n : ℕ) (a : System) (p : ℕ) → p < rank test n → compact (stagesWith test n) a .s p ≡ a .s (getD (stagesWith test n) p 0)
+  unfolding compact rank
+  compact-exit n a p bp = let s = stagesWith test n in stored-at 0·0 (length s) (λ i. a .s (getD s i 0)) p bp
 
   -- The stage at each place of the list: below n, passes the test, and has that place as its rank.
   pub record Listed (n q i : ℕ) : Type 0 where

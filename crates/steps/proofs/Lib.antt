@@ -7,9 +7,11 @@ pub mod Gathering
 pub mod FloatSums
 pub mod AddProduct
 pub mod CompactOrder
+pub mod LiveStages
 pub mod MarginsSteps
 pub mod QuestionLaws
 pub mod Searches
 pub mod Trapped
+pub mod ZeroColumn
 pub mod Filling
 mod ColumnOfTable

@@ -5,15 +5,17 @@ use mathlib.Core.Path.{_≡_, refl, sym, ap, _∙_}
 use native.Mathlib.Nat.{add-zero, add-suc}
 use native.Mathlib.Omega.{arith}
 use lib.Dec.{leb, eqb}
-use lib.ListN.{length, getD}
+use lib.ListN.{getD}
 use lib.Ieee.{Float}
 use borrow.Author.Tests.{eq-eqb, ne-eqb, le-leb, lt-leb}
 use Rattle.exact.proofs.Cases.{by-order}
 use Rattle.definitions.specs.Numbers.{_⊕_, _⊗_, _⊘_, 0·0, 1·0, sum, isZero}
 use Rattle.definitions.specs.LeavingRates.{downward, quotient}
-use Rattle.definitions.specs.Margins.{stagesWith, rank, compact, sumWith, hOf, kBefore, h, a, kept, scaled, keptSystem, y, known, joined, xAfter, entry}
+use Rattle.definitions.specs.Compact.{stagesWith, rank}
+use Rattle.definitions.specs.Margins.{sumWith, hOf, kBefore, h, a, kept, scaled, keptSystem, y, known, joined, xAfter, entry}
 use Rattle.steps.proofs.TableLaws.{stored-at, storedTable-at}
 use Rattle.steps.proofs.FloatSums.{sum-same}
+use Rattle.steps.proofs.CompactOrder.{compact-size, compact-exit}
 
 module _ (n : ℕ) (t : ℕ → ℕ → Float) (d : ℕ → Float) where
   -- The k_j as they become known: the newest one, and the earlier ones as they were.
@@ -74,19 +76,15 @@ module _ (n : ℕ) (t : ℕ → ℕ → Float) (d : ℕ → Float) (k : ℕ → 
   pub kept-size :
       (p q : ℕ) → p < rank (kept n t d k) n → q < rank (kept n t d k) n
       → keptSystem n t d k .t p q ≡ t (getD (stagesWith (kept n t d k) n) p 0) (getD (stagesWith (kept n t d k) n) q 0) ⊗ k (getD (stagesWith (kept n t d k) n) q 0)
-  unfolding keptSystem compact scaled rank
-  kept-size p q bp bq =
-      let s = stagesWith (kept n t d k) n in
-      storedTable-at 0·0 (length s) (λ i j. t (getD s i 0) (getD s j 0) ⊗ k (getD s j 0)) p q bp bq
+  unfolding keptSystem scaled
+  kept-size p q bp bq = compact-size (kept n t d k) n (scaled n t d k) p q bp bq
 
   pub kept-exit :
       (p : ℕ) → p < rank (kept n t d k) n
       → keptSystem n t d k .s p
       ≡ (let i = getD (stagesWith (kept n t d k) n) p 0 in sum 0·0 (λ j. t i j ⊗ (d j ⊘ a n t d k j)) (suc i) (n - suc i))
-  unfolding keptSystem compact scaled rank
-  kept-exit p bp =
-      let s = stagesWith (kept n t d k) n in
-      stored-at 0·0 (length s) (λ q. sum 0·0 (λ j. t (getD s q 0) j ⊗ (d j ⊘ a n t d k j)) (suc (getD s q 0)) (n - suc (getD s q 0))) p bp
+  unfolding keptSystem scaled
+  kept-exit p bp = compact-exit (kept n t d k) n (scaled n t d k) p bp
 
   pub y-is :
       (i j : ℕ)

@@ -84,6 +84,11 @@ rows-pass good number n h =
     (λ i hi. scan-pass (λ j. ask (good i j) number (suc i) (suc j)) (askRow good number i) (λ j. refl) (λ j m. refl) 0 n
     (λ j hj. yes-ask (good i j) number (suc i) (suc j) (h i j (omega arith) (omega arith))))
 
+pub stages-pass : (good : ℕ → Bool) (number n : ℕ) → ((i : ℕ) → i < n → T (good i)) → askStages good number 0 n ≡ pass
+unfolding askStages
+stages-pass good number n h =
+    scan-pass (λ i. ask (good i) number (suc i) 0) (askStages good number) (λ i. refl) (λ i m. refl) 0 n (λ i hi. yes-ask (good i) number (suc i) 0 (h i (omega arith)))
+
 -- A search looks at its own stages alone.
 pub stages-same : (p q : ℕ → Bool) (number i m : ℕ) → ((k : ℕ) → k < i + m → p k ≡ q k) → askStages p number i m ≡ askStages q number i m
 unfolding askStages

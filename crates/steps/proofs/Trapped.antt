@@ -1,8 +1,9 @@
--- Question 9 names the lowest trapped stage: `getsOut` decides the chains, and the search over the stages stops at the first no.
+-- Question 9 names the lowest stage that is trapped and not idle: `getsOut` decides the chains, `idle` the rows and columns, and the
+-- search over the stages stops at the first no.
 use Prim.Native.Nat.{ℕ, zero, suc, _+_, _≤_, _<_, zero-le}
 use mathlib.Core.Bool.{Bool, not}
 use mathlib.Core.List.{List}
-use mathlib.Core.Logic.{_≢_, _↔_, _⊎_, inl, inr}
+use mathlib.Core.Logic.{_≢_, _↔_, _⊎_, inl, inr, ⊎-elim}
 use mathlib.Core.Path.{_≡_, refl, sym, _∙_}
 use native.Mathlib.Omega.{arith}
 use lib.Dec.{T, eqb, eqb→eq, eqb-refl, T-not, not-T}
@@ -12,12 +13,14 @@ use borrow.Author.Tests.{ne-eqb}
 use Rattle.exact.specs.Chains.{GetsOut, stop, go, WithinDecidesChains}
 use Rattle.exact.proofs.Chains.{within-decides-chains}
 use Rattle.exact.proofs.Cases.{by-equal, by-order, by-bool}
-use Rattle.exact.proofs.Bools.{holds}
+use Rattle.exact.proofs.Bools.{holds, or-l, or-r, or-cases}
 use Rattle.definitions.specs.Numbers.{isZero}
-use Rattle.definitions.specs.Sheet.{size}
-use Rattle.definitions.specs.Questions.{Asked, pass, refuse, moves, leaves, getsOut, question9, askStages}
+use Rattle.definitions.specs.Sheet.{place, size, idle}
+use Rattle.definitions.specs.Questions.{Asked, pass, refuse, moves, leaves, getsOut, notTrapped, question9, askStages}
 use Rattle.steps.proofs.QuestionLaws.{never-both}
-use Rattle.steps.specs.Trapped.{Chain, empty, move, LowestTrapped, DecidesTrapped}
+use Rattle.steps.proofs.All.{each-below, every-below}
+use Rattle.steps.proofs.LiveStages.{zeros}
+use Rattle.steps.specs.Trapped.{Chain, empty, move, Idle, LowestTrapped, DecidesTrapped}
 
 -- ---- the search over the stages
 -- What the search of m stages from i on comes to: all pass, or k is the first that does not.
@@ -71,35 +74,50 @@ module _ (n : ℕ) (sheet : List Float) where
       go {j = j} (and-i (not (eqb i j)) (not (isZero (size n sheet i j))) (not-T (eqb i j) (λ e. d (eqb→eq i j e))) t)
       (record { low = zero-le; high = omega arith }) (from-chain j c)
 
-  chain : (i : ℕ) → i < n → T (getsOut n sheet i) → Chain n sheet i
-  chain i l t = to-chain i l (out-decided i l .0 t)
+  -- ---- idle stages
+  pub idle-decided : (i : ℕ) → (T (idle n sheet i) ↔ Idle n sheet i)
+  unfolding idle Idle zeros
+  idle-decided i = (
+    λ t j l.
+        let both = each-below n (zeros n sheet i) t j l in
+        (and-l (isZero (place n sheet i j)) (isZero (place n sheet j i)) both, and-r (isZero (place n sheet i j)) (isZero (place n sheet j i)) both),
+    λ f. every-below n (zeros n sheet i) (λ j l. and-i (isZero (place n sheet i j)) (isZero (place n sheet j i)) (f j l .0) (f j l .1)),
+  )
 
-  gets-out : (i : ℕ) → i < n → Chain n sheet i → T (getsOut n sheet i)
-  gets-out i l c = out-decided i l .1 (from-chain i c)
+  idle-or-chain : (i : ℕ) → i < n → T (notTrapped n sheet i) → Idle n sheet i ⊎ Chain n sheet i
+  unfolding notTrapped
+  idle-or-chain i l t =
+      ⊎-elim (λ a. inl (idle-decided i .0 a)) (λ b. inr (to-chain i l (out-decided i l .0 b))) (or-cases (idle n sheet i) (getsOut n sheet i) t)
+
+  not-trapped : (i : ℕ) → i < n → Idle n sheet i ⊎ Chain n sheet i → T (notTrapped n sheet i)
+  unfolding notTrapped
+  not-trapped i l =
+      ⊎-elim (λ a. or-l (idle n sheet i) (getsOut n sheet i) (idle-decided i .1 a)) (λ c. or-r (idle n sheet i) (getsOut n sheet i) (out-decided i l .1 (from-chain i c)))
 
   -- ---- what the search comes to, in chains
   abbrev Searched : Asked → Type 0
-  Searched = Found (getsOut n sheet) 9 0 n
+  Searched = Found (notTrapped n sheet) 9 0 n
 
-  pass-is : {a : Asked} → Searched a → (a ≡ pass) ↔ ((i : ℕ) → i < n → Chain n sheet i)
-  pass-is (all-pass e f) = (λ p i l. chain i l (f i zero-le (omega arith)), λ h. e)
+  pass-is : {a : Asked} → Searched a → (a ≡ pass) ↔ ((i : ℕ) → i < n → Idle n sheet i ⊎ Chain n sheet i)
+  pass-is (all-pass e f) = (λ p i l. idle-or-chain i l (f i zero-le (omega arith)), λ h. e)
   pass-is (first-fails k e a b bad f) =
-      (λ p. absurd (never-both e p), λ h. absurd (bad (gets-out k (omega arith) (h k (omega arith)))))
+      (λ p. absurd (never-both e p), λ h. absurd (bad (not-trapped k (omega arith) (h k (omega arith)))))
 
   -- Two lowest trapped stages are one.
   lowest-is : {k i : ℕ} → LowestTrapped n sheet k → LowestTrapped n sheet i → k ≡ i
   lowest-is {k} {i} p q =
       by-order k i
-      (λ l. by-order i k (λ m. omega arith) (λ m. absurd (p .trapped (q .lower k m))))
-      (λ l. absurd (q .trapped (p .lower i l)))
+      (λ l. by-order i k (λ m. omega arith) (λ m. absurd (⊎-elim (p .busy) (p .trapped) (q .lower k m))))
+      (λ l. absurd (⊎-elim (q .busy) (q .trapped) (p .lower i l)))
 
   refuse-is : {a : Asked} → Searched a → (i : ℕ) → ((a ≡ refuse 9 (suc i) 0) ↔ LowestTrapped n sheet i)
-  refuse-is (all-pass e f) i = (λ p. absurd (never-both p e), λ h. absurd (h .trapped (chain i (h .below) (f i zero-le (omega (arith, h .below))))))
+  refuse-is (all-pass e f) i = (λ p. absurd (never-both p e), λ h. absurd (⊎-elim (h .busy) (h .trapped) (idle-or-chain i (h .below) (f i zero-le (omega (arith, h .below))))))
   refuse-is (first-fails k e a b bad f) i =
       let lowest : LowestTrapped n sheet k = record {
         below = omega arith;
-        trapped = λ c. bad (gets-out k (omega arith) c);
-        lower = λ l m. chain l (omega arith) (f l zero-le m);
+        trapped = λ c. bad (not-trapped k (omega arith) (inr c));
+        busy = λ a. bad (not-trapped k (omega arith) (inl a));
+        lower = λ l m. idle-or-chain l (omega arith) (f l zero-le m);
       } in
       (λ p. rw (row (sym e ∙ p)) at lowest, λ h. rw (lowest-is lowest h) at e)
 
@@ -110,7 +128,7 @@ module _ (n : ℕ) (sheet : List Float) where
   pub decides-trapped : DecidesTrapped n sheet
   unfolding question9
   decides-trapped =
-      let answer = found (getsOut n sheet) 9 0 n in
+      let answer = found (notTrapped n sheet) 9 0 n in
       record {
         passes = pass-is answer;
         refuses = refuse-is answer;

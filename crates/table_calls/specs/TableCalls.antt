@@ -5,9 +5,9 @@ use mathlib.Core.List.{List}
 use Prim.Native.Nat.{ℕ, _-_}
 use lib.ListN.{length, getD}
 use lib.Ieee.{Float, nan}
-use Rattle.definitions.specs.Sheet.{place, allowance}
+use Rattle.definitions.specs.Sheet.{place, takesPart, allowance}
 use Rattle.definitions.specs.Table.{entry}
-use Rattle.definitions.specs.Matrix.{matrix, everyStage}
+use Rattle.definitions.specs.Matrix.{matrix}
 use Rattle.definitions.specs.Questions.{pass, tableQuestions, entryQuestions}
 use Rattle.definitions.specs.Accuracy.{Accurate, AccurateColumn}
 use Rattle.definitions.specs.Services.{tableAnswer, tableArea, entryAnswer}
@@ -20,17 +20,17 @@ pub record TableCall (reading n : ℕ) (sheet before after : List Float) (allowe
   pub answer : ValueHanded (tableAnswer reading n sheet (length before)) allowed allowed' row column returned
   pub area : after ≡ tableArea reading n sheet before
   pub accurate : tableQuestions reading n sheet (length before) ≡ pass
-      → Accurate n everyStage (allowance reading n) (matrix reading n sheet) (place n after)
+      → Accurate n (takesPart reading n sheet) (allowance reading n) (matrix reading n sheet) (place n after)
 
 -- One column: the same places as the table's, of an area that takes n numbers.
 pub record ColumnCall (reading n : ℕ) (sheet : List Float) (stage : ℕ) (before after : List Float) (allowed allowed' row column returned : ℕ) : Type 0 where
   pub answer : ValueHanded (columnAnswer reading n sheet (length before) stage) allowed allowed' row column returned
   pub area : after ≡ columnArea reading n sheet stage before
   pub accurate : columnQuestions reading n sheet (length before) stage ≡ pass
-      → AccurateColumn n everyStage (allowance 1 n) (matrix 1 n sheet) (stage - 1) (λ i. getD after i nan)
+      → AccurateColumn n (takesPart 1 n sheet) (allowance 1 n) (matrix 1 n sheet) (stage - 1) (λ i. getD after i nan)
 
 -- One entry: the place for the seconds before and after, and the same.
 pub record EntryCall (reading n : ℕ) (sheet : List Float) (i j : ℕ) (seconds seconds' : Float) (row column returned : ℕ) : Type 0 where
   pub answer : ValueHanded (entryAnswer reading n sheet i j) seconds seconds' row column returned
   pub accurate : entryQuestions reading n sheet i j ≡ pass
-      → Accurate n everyStage (allowance reading n) (matrix reading n sheet) (entry reading n sheet)
+      → Accurate n (takesPart reading n sheet) (allowance reading n) (matrix reading n sheet) (entry reading n sheet)

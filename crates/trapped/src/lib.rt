@@ -1,8 +1,9 @@
-// Question 9 of document 01: the lowest stage that no chain of moves leads out of. The stages that get out are
-// marked backwards from the exits.
+// Question 9: the lowest stage that no chain of moves leads out of and that is not idle (documents 01 and 02, U3).
+// The stages that get out are marked backwards from the exits. An idle stage is not trapped (document 02, U3).
 ghost use Prim.Native.Nat.{_≤_};
-ghost use mathlib.Core.Bool.{false};
+ghost use mathlib.Core.Bool.{false, _||_};
 ghost use lib.ListN.{getD};
+ghost use Rattle.definitions.specs.Sheet.{idle};
 ghost use Rattle.definitions.specs.Questions.{question9, getsOut, askStages};
 ghost use Rattle.answers.specs.Outcome.{ComesTo};
 ghost use Rattle.shape.specs.Square.{Square};
@@ -44,13 +45,13 @@ fn reach(n: usize, sheet: &[f64]) -> Marks
     }
 }
 
-// Refuses the lowest stage that is not marked.
-fn ask_marked(n: usize, marks: Marks) -> Asked
-    requires { ⌜ n ≤ 32 ⌝ }
-    ensures { λ r. ⌜ ComesTo (askStages (isMarked marks) 9 0 n) (r .number) (r .row) (r .column) ⌝ }
+// Refuses the lowest stage that is neither marked nor idle.
+fn ask_marked(n: usize, sheet: &[f64], marks: Marks) -> Asked
+    requires { ⌜ Square n (now sheet) ⌝ }
+    ensures { λ r. ⌜ ComesTo (askStages (λ i. idle n (now (sheet .entry)) i || isMarked marks i) 9 0 n) (r .number) (r .row) (r .column) ⌝ }
 {
     for i in 0..n {
-        if !marks.marked[i] {
+        if !marks.marked[i] && !idle::is_idle(n, i, sheet) {
             return Asked {
                 number: 9,
                 row: i + 1,
@@ -65,7 +66,8 @@ fn ask_marked(n: usize, marks: Marks) -> Asked
     }
 }
 
-// Question 9. That it names the lowest trapped stage is a theorem (crates/steps/specs/Trapped.antt).
+// Question 9. That it names the lowest stage that is trapped and not idle is a theorem (specs/Trapped.antt in
+// crates/steps).
 pub fn ask_trapped(reading: usize, n: usize, sheet: &[f64]) -> Asked
     requires { ⌜ Square n (now sheet) ⌝ }
     ensures { λ r. ⌜ ComesTo (question9 reading n (now (sheet .entry))) (r .number) (r .row) (r .column) ⌝ }
@@ -77,5 +79,13 @@ pub fn ask_trapped(reading: usize, n: usize, sheet: &[f64]) -> Asked
             column: 0,
         };
     }
-    ask_marked(n, reach(n, sheet))
+    let marks = reach(n, sheet);
+    if marks.count == n {
+        return Asked {
+            number: 0,
+            row: 0,
+            column: 0,
+        };
+    }
+    ask_marked(n, sheet, marks)
 }

@@ -1,5 +1,4 @@
 -- `column::solve` meets its contract. Assumes nothing.
-use lib.Ieee.{ofBits}
 use borrow.Author.Needs.{needs}
 use borrow.Author.Tests.{not-true, not-false}
 use Rattle.tables.specs.RowMajor.{table}
@@ -13,7 +12,6 @@ returns c =
     out-of-range (s .args .r) (s .args .j) (table (s .args .t .now)) (c .before .shared .ensures) (not-true (c .before .shared .result) (c .if1 .taken)) (s .pre .3 .long)
 
 returns-2 : tie.Need-returns-2
-unfolding ofBits
 returns-2 c =
     let up = c .before .before .before in
     let down = up .before .before .before in
@@ -21,7 +19,7 @@ returns-2 c =
     let test = one .before .before in
     let shared = test .before in
     let s = shared .before .before in
-    column-solved (s .args .r) (s .args .j) (table (s .args .t .now)) (shared .shared .ensures) (not-false (shared .shared .result) (test .if1 .left)) (s .pre .3) (one .put .ensures) (down .downward-steps .ensures) (up .upward-steps .ensures) (c .quotients .ensures)
+    column-solved (s .args .r) (s .args .j) (table (s .args .t .now)) (shared .shared .ensures) (not-false (shared .shared .result) (test .if1 .left)) (one .identity .ensures) (down .downward-steps .ensures) (up .upward-steps .ensures) (c .quotients .ensures)
 
 pub solve-spec : {M : Type 1} → statement M
 solve-spec =

@@ -1,26 +1,14 @@
 -- `column_planner::steps` meets its contract. Assumes nothing.
-use mathlib.Core.Path.{refl}
-use Rattle.rounding.proofs.Words.{zero-word}
-use Rattle.tables.proofs.Vectors.{zero-table}
-use Rattle.column_planner.proofs.Endings.{column-stepped}
+use mathlib.Core.Path.{sym, _∙_}
+use borrow.Author.Needs.{needs}
+use borrow.Author.Tests.{not-false}
 use Rattle.column_planner.proofs.steps.Statement.{statement}
 use Rattle.column_planner.proofs.steps.Tie as tie
 
-rates-requires : tie.Need-rates-requires
-rates-requires c κs = (c .before .before .before .before .pre .0, c .before .sizes .ensures .long)
-
-solve-requires : tie.Need-solve-requires
-solve-requires c κs =
-    let rated = c .before .before in
-    let s = rated .before .before .before .before .before .pre in
-    (s .1, s .0 .few, rated .rates .ensures .long, s .2)
-
-returns : tie.Need-returns
-returns c =
-    let rated = c .before .before .before in
-    let sized = rated .before .before in
-    let s = sized .before .before .before .args in
-    column-stepped (s .n) (s .j) (s .sheet .now) (zero-table 32 32 1024 zero-word) (sized .sizes .ensures) (rated .rates .ensures) (c .solve .ensures)
+leaving-rates-requires : tie.Need-leaving-rates-requires
+leaving-rates-requires c κs =
+    let s = c .before .before .before .before .pre in
+    (s .0, not-false _ (sym (c .before .before .some-idle .ensures) ∙ c .before .if1 .left), s .1, s .2)
 
 pub steps-spec : {M : Type 1} → statement M
-steps-spec = tie.close (tie.spec (λ c κs. (c .before .before .pre .0, refl)) rates-requires solve-requires returns)
+steps-spec = tie.close (tie.spec (λ c κs. search needs) (λ c κs. search needs) (λ c. c .live-stages .ensures) leaving-rates-requires (λ c. c .leaving-rates .ensures))

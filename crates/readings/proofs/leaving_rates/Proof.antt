@@ -13,14 +13,14 @@ solve-requires : tie.Need-solve-requires
 solve-requires c κs =
     let rated = c .before .before in
     let s = rated .before .before .before .before .before .pre in
-    (s .0 .few, rated .rates .ensures .long, s .1)
+    (s .0 .few, rated .rates .ensures .long, s .2)
 
 returns : tie.Need-returns
 returns c =
     let rated = c .before .before .before in
     let sized = rated .before .before in
-    let s = sized .before .before .before .args in
-    first-stepped (s .n) (s .sheet .now) (zero-table 32 32 1024 zero-word) (sized .sizes .ensures) (rated .rates .ensures) (c .solve .ensures)
+    let s = sized .before .before .before in
+    first-stepped (s .args .n) (s .args .sheet .now) (zero-table 32 32 1024 zero-word) (sized .sizes .ensures) (s .pre .1) (rated .rates .ensures) (c .solve .ensures)
 
 pub leaving-rates-spec : {M : Type 1} → statement M
 leaving-rates-spec = tie.close (tie.spec (λ c κs. (c .before .before .pre .0, refl)) rates-requires solve-requires returns)

@@ -5,7 +5,7 @@ use native.Mathlib.Omega.{arith}
 use lib.Dec.{ltb}
 use borrow.Author.Needs.{needs}
 use Rattle.definitions.specs.Numbers.{_⊘_, divInRange}
-use Rattle.definitions.specs.Margins.{rank}
+use Rattle.definitions.specs.Compact.{rank}
 use Rattle.rounding.proofs.ResultRange.{quotient-test}
 use Rattle.tables.specs.Vectors.{vector}
 use Rattle.compact.specs.Listing.{marked}

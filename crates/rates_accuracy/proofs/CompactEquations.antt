@@ -13,7 +13,7 @@ use Rattle.exact.specs.Sums.{sum}
 use Rattle.exact.specs.Systems.{Equations, diag, mix, RowHolds, Solves, AllOut, moves, exits}
 use Rattle.exact.proofs.Sums.{sum-end, sum-cong}
 use Rattle.exact.proofs.Cases.{by-bool}
-use Rattle.definitions.specs.Margins.{stagesWith, rank}
+use Rattle.definitions.specs.Compact.{stagesWith, rank}
 use Rattle.steps.proofs.CompactOrder.{rank-none, rank-take, rank-leave, rank-below, list-longer, stage-of-rank, listed}
 
 module _ (test : ℕ → Bool) where
