@@ -142,8 +142,7 @@ module _ (n : ℕ) (sheet : List Float) (fit : Binary64 sheet) (e : numberQuesti
   first-table r =
       record {
         X = X;
-        inverse = only-inverse .inverse;
-        unique = only-inverse .unique;
+        exact = only-inverse;
         within = λ i j hi hj.
             column-within j hj (table-shared (liveCount n sheet) (liveBegun n sheet) r)
             (λ o. table-column (liveCount n sheet) (liveBegun n sheet) r (rank on j) (rank-below on n j hj o)) i hi;

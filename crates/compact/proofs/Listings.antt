@@ -7,14 +7,29 @@ use native.Mathlib.Omega.{arith}
 use mathlib.Core.Bool.{Bool, true, false, not, _||_, cond}
 use mathlib.Core.List.{List, [], _∷_, _++_}
 use lib.ListN.{length, getD, set, length-set}
-use lib.Seq.{take-suc-set, getD-take}
-use Rattle.exact.proofs.Cases.{by-order}
+use lib.Seq.{take-suc-set, getD-take, getD-set-same, getD-set-other}
+use Rattle.exact.proofs.Cases.{by-equal, by-order}
 use Rattle.exact.proofs.Bools.{contrary, same-truth, if-in, if-out}
 use Rattle.definitions.specs.Numbers.{all}
 use Rattle.definitions.specs.Compact.{stagesWith, rank}
 use Rattle.steps.proofs.All.{each-below, every-below}
 use Rattle.steps.proofs.CompactOrder.{list-take, list-leave, rank-none, rank-take, rank-leave, rank-within, rank-below, stage-of-rank, Listed, listed}
-use Rattle.compact.specs.Listing.{stageAt, Listing, Stages, Found}
+use Rattle.compact.specs.Listing.{IsMask, MaskOf, stageAt, Listing, Stages, Found}
+
+-- ---- marks, one stage after another
+module _ {test : ℕ → Bool} {mask : List Bool} where
+  pub mask-begins : IsMask mask → MaskOf test 0 mask
+  mask-begins e = record { long = e; is = λ i l. let z : ⊥ = omega arith in absurd z }
+
+  pub mask-turns : {m : ℕ} {b : Bool} → MaskOf test m mask → m < 32 → b ≡ test m → MaskOf test (suc m) (set mask m b)
+  mask-turns {m} {b} h l e =
+      record {
+        long = length-set mask m b ∙ h .long;
+        is = λ i g.
+            by-equal i m
+            (λ q. rw q (getD-set-same mask m b false (omega (arith, h .long)) ∙ e))
+            (λ q. getD-set-other mask m i b false q ∙ h .is i (omega arith));
+      }
 
 -- ---- the list grows
 module _ (test : ℕ → Bool) where

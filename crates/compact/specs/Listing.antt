@@ -13,6 +13,11 @@ IsMask mask = length mask ≡ 32
 abbrev pub marked : List Bool → ℕ → Bool
 marked mask i = getD mask i false
 
+-- Of the first m stages exactly those that pass a test are marked.
+pub record MaskOf (test : ℕ → Bool) (m : ℕ) (mask : List Bool) : Type 0 where
+  pub long : IsMask mask
+  pub is : (i : ℕ) → i < m → marked mask i ≡ test i
+
 -- The stage at place q of a list of stages.
 abbrev pub stageAt : List ℕ → ℕ → ℕ
 stageAt stages q = getD stages q 0

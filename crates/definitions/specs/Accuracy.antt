@@ -39,8 +39,7 @@ extended on X i j = cond (on i && on j) (X i j) (whole 0)
 -- "There is such an X, and only one; and for every i and j", with x the entry (i, j) of the table and y that of the rule.
 pub record Accurate (n : ℕ) (on : ℕ → Bool) (E : ℕ) (A : ℕ → ℕ → Fraction) (x : ℕ → ℕ → Float) : Type 0 where
   pub X : ℕ → ℕ → Fraction
-  pub inverse : Inverse n on A X
-  pub unique : (Y : ℕ → ℕ → Fraction) → Inverse n on A Y → (i j : ℕ) → Stage n on i → Stage n on j → X i j ≈ Y i j
+  pub exact : OnlyInverse n on A X
   pub within : (i j : ℕ) → i < n → j < n → Within E (x i j) (extended on X i j)
 
 -- The same for every i and one j: the numbers x of column j alone (document 02, U2).

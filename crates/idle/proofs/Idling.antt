@@ -2,19 +2,14 @@
 use mathlib.Core.Path.{_≡_, refl, sym, ap, _∙_}
 use mathlib.Core.Bool.{Bool, true, false, not, _&&_, _||_}
 use mathlib.Core.List.{List}
-use Prim.Native.Nat.{ℕ, _+_, _≤_, _<_}
-use lib.ListN.{length, getD, set, length-set}
-use lib.Seq.{getD-set-same, getD-set-other}
+use Prim.Native.Nat.{ℕ, _<_}
 use lib.Ieee.{Float, binary64, ofBits, eq, ne}
-use native.Mathlib.Omega.{arith}
 use Rattle.exact.proofs.Bools.{same-truth}
-use Rattle.exact.proofs.Cases.{by-equal}
 use Rattle.definitions.specs.Numbers.{isZero, all}
 use Rattle.definitions.specs.Sheet.{place, idle, takesPart}
 use Rattle.rounding.proofs.Words.{zero-word}
 use Rattle.steps.proofs.All.{each-below}
 use Rattle.steps.proofs.LiveStages.{zeros, idle-is, live-is}
-use Rattle.idle.specs.LiveStages.{LiveStages}
 
 -- A test that fails at one place fails.
 pub one-fails : (p : ℕ → Bool) (n i : ℕ) → i < n → p i ≡ false → all p 0 n ≡ false
@@ -39,25 +34,3 @@ module _ (n : ℕ) (sheet : List Float) (i : ℕ) where
 
   pub live-of : {b : Bool} → b ≡ idle n sheet i → not b ≡ takesPart 1 n sheet i
   live-of e = ap not e ∙ sym (live-is n sheet i)
-
--- The stages before i are marked.
-pub record LiveBefore (n : ℕ) (sheet : List Float) (i : ℕ) (live : List Bool) : Type 0 where
-  pub long : length live ≡ 32
-  pub is : (k : ℕ) → k < i → getD live k false ≡ takesPart 1 n sheet k
-
-module _ {n : ℕ} {sheet : List Float} {live : List Bool} where
-  pub live-begins : length live ≡ 32 → LiveBefore n sheet 0 live
-  live-begins e = record { long = e; is = λ k l. let z : ⊥ = omega arith in absurd z }
-
-  pub live-turns : {i : ℕ} {b : Bool} → LiveBefore n sheet i live → i < 32 → b ≡ idle n sheet i → LiveBefore n sheet (i + 1) (set live i (not b))
-  live-turns {i} {b} h l e =
-      record {
-        long = length-set live i (not b) ∙ h .long;
-        is = λ k m.
-            by-equal k i
-            (λ q. rw q (getD-set-same live i (not b) false (omega (arith, h .long)) ∙ live-of n sheet i e))
-            (λ q. getD-set-other live i k (not b) false q ∙ h .is k (omega arith));
-      }
-
-  pub live-ends : {i : ℕ} → LiveBefore n sheet i live → n ≤ i → LiveStages n sheet live
-  live-ends h l = record { long = h .long; is = λ k m. h .is k (omega arith) }

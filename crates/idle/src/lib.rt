@@ -3,11 +3,9 @@
 ghost use mathlib.Core.Path.{_≡_};
 ghost use mathlib.Core.Bool.{not};
 ghost use Prim.Native.Nat.{_<_};
-ghost use lib.ListN.{length};
 ghost use Rattle.definitions.specs.Numbers.{all};
 ghost use Rattle.definitions.specs.Sheet.{idle, takesPart};
 ghost use Rattle.shape.specs.Square.{Square};
-ghost use Rattle.idle.specs.LiveStages.{LiveStages};
 use shape::number_at;
 
 // Whether stage i is idle. A stage in use mostly shows it early, so the search ends at its first number.
@@ -35,14 +33,4 @@ pub fn some_idle(n: usize, sheet: &[f64]) -> bool
         }
     }
     false
-}
-
-// Marks the stages that take part in the steps; the places past the last stage keep what they hold.
-pub fn live_stages(n: usize, sheet: &[f64], live: &mut [bool; 32])
-    requires { ⌜ Square n (now sheet) × (length (now live) ≡ 32) ⌝ }
-    ensures { λ _. ⌜ LiveStages n (now (sheet .entry)) (now (live .exit)) ⌝ }
-{
-    for i in 0..n {
-        live[i] = !is_idle(n, i, sheet);
-    }
 }

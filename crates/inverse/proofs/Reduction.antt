@@ -195,11 +195,9 @@ inverse-reduction n on A a t c Z z rows apart columns regular =
 pub reduction : Reduction
 unfolding Reduction InverseReduction EntryReduction Apart extended
 reduction n E A x a t c Z z rows columns regular table =
-    let only = inverse-reduction n everyStage A a t c Z z rows (λ i j s l o. absurd o) columns regular in
     record {
       X = λ i j. fraction (z j i) (Z j);
-      inverse = only .inverse;
-      unique = only .unique;
+      exact = inverse-reduction n everyStage A a t c Z z rows (λ i j s l o. absurd o) columns regular;
       within = λ i j l m. entry-reduction E (x i j) (z j i) (Z j) (columns .positive j (record { below = m; part = tt })) (table .good i j l m) (table .near i j l m);
     }
 

@@ -13,15 +13,14 @@ use Rattle.steps.proofs.LiveStages.{live-count, live-size, live-exit, entry-liv
 use Rattle.steps.proofs.Same.{Same, same-quotient}
 use Rattle.tables.specs.RowMajor.{table, Holds}
 use Rattle.passes.specs.Multipliers.{systemIn}
-use Rattle.idle.specs.LiveStages.{LiveStages}
-use Rattle.compact.specs.Listing.{marked, stageAt, Listing}
+use Rattle.compact.specs.Listing.{marked, MaskOf, stageAt, Listing}
 use Rattle.compact.specs.Compact.{Packed}
 use Rattle.compact.proofs.Listings.{listing-at, listing-stage, listing-same}
 use Rattle.loading.specs.LoadedTable.{withSizes, withRates}
 use Rattle.loading.proofs.LoadedSheet.{rates-are, loaded-system}
 use Rattle.live.specs.LivePacked.{LivePacked}
 
-module _ (n : ℕ) (sheet : List Float) {mask : List Bool} (live : LiveStages n sheet mask) {r : ℕ} {stages : List ℕ} (listed : Listing (marked mask) n r stages) where
+module _ (n : ℕ) (sheet : List Float) {mask : List Bool} (live : MaskOf (takesPart 1 n sheet) n mask) {r : ℕ} {stages : List ℕ} (listed : Listing (marked mask) n r stages) where
   live-listing : Listing (takesPart 1 n sheet) n r stages
   live-listing = listing-same (live .is) listed
 

@@ -17,8 +17,8 @@ use Rattle.steps.proofs.All.{all-below}
 use Rattle.steps.proofs.FloatSums.{sumWith-same}
 use Rattle.steps.proofs.MarginsSteps.{known-is, x-kept, join-corner, join-row, join-column, join-other}
 use Rattle.tables.specs.Vectors.{vector}
-use Rattle.compact.specs.Listing.{marked}
-use Rattle.ratios.specs.Ratios.{ratio, diagonalOf, isKept, Diagonals, KeptMask}
+use Rattle.compact.specs.Listing.{marked, MaskOf}
+use Rattle.ratios.specs.Ratios.{ratio, diagonalOf, isKept, Diagonals}
 use Rattle.joins.specs.StageJoin.{knows, factorsOf, factorsInRange, placeInRange, columnInRange, joinedTable, joinTest}
 use Rattle.joins.specs.Joins.{dueJoined, dueTest, stagesJoined, stagesTest}
 use Rattle.margins.proofs.Conditions.{asked-once}
@@ -85,7 +85,7 @@ module _ (n : ℕ) (t : ℕ → ℕ → Float) (d : ℕ → Float) where
         before i s = by-equal i (n - suc q) (λ g. rw g (kept-known (n - suc q) e)) (λ m. sym (known-before i m) ∙ s)
 
   -- ---- by the vectors a and kept
-  module _ {a : List Float} {kept : List Bool} (diagonals : Diagonals n t d n a) (mask : KeptMask n t d n kept) (q : ℕ) (l : q < n) {f : ℕ → ℕ → Float} (k : KnownTable n t d q f) where
+  module _ {a : List Float} {kept : List Bool} (diagonals : Diagonals n t d n a) (mask : MaskOf (isKept n t d) n kept) (q : ℕ) (l : q < n) {f : ℕ → ℕ → Float} (k : KnownTable n t d q f) where
     c : ℕ
     c = n - suc q
 
@@ -180,7 +180,7 @@ module _ (n : ℕ) (t : ℕ → ℕ → Float) (d : ℕ → Float) where
     due-tests = ap₂ _||_ due-kept now-tests
 
   -- ---- the stages one after another
-  module _ {a : List Float} {kept : List Bool} (diagonals : Diagonals n t d n a) (mask : KeptMask n t d n kept) {f : ℕ → ℕ → Float} (k : KnownTable n t d 0 f) where
+  module _ {a : List Float} {kept : List Bool} (diagonals : Diagonals n t d n a) (mask : MaskOf (isKept n t d) n kept) {f : ℕ → ℕ → Float} (k : KnownTable n t d 0 f) where
     joined-right : (q : ℕ) → q ≤ n → KnownTable n t d q (stagesJoined n t (vector a) (marked kept) f q)
     unfolding stagesJoined
     joined-right zero l = k

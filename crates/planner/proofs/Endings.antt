@@ -33,8 +33,7 @@ accurate-same : {n E : ℕ} {on : ℕ → Bool} {A : ℕ → ℕ → Fraction} {
 accurate-same {n} {E} {on} y e a =
     record {
       X = a .X;
-      inverse = a .inverse;
-      unique = a .unique;
+      exact = a .exact;
       within = λ i j hi hj. subst (λ z. Within E z (extended on (a .X) i j)) (e i j hi hj) (a .within i j hi hj);
     }
 

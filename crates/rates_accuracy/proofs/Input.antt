@@ -1,16 +1,16 @@
 -- What the questions leave: an accepted sheet has good sizes and good diagonals; under reading 1 its moves and exits are numbers that
 -- are not zero, under reading 2 its diagonals are positive.
 use Prim.Native.Nat.{ℕ, zero, suc, _+_, _-_, _*_, _<_}
-use mathlib.Core.Bool.{Bool, true, false, not, _&&_, cond}
+use mathlib.Core.Bool.{Bool, true, false, not, cond}
 use mathlib.Core.List.{List}
 use mathlib.Core.Path.{_≡_, refl}
 use mathlib.Core.Logic.{_≢_}
 use native.Mathlib.Omega.{arith}
-use lib.Dec.{T, leb, eqb, ltb, leb→le, lt→ltb, ltb→lt}
+use lib.Dec.{T, eqb, ltb, lt→ltb, ltb→lt}
 use lib.ListN.{length}
 use lib.Ieee.{Float, nan, inf, fin, binary64, fits, lt, le, eq}
 use borrow.Author.Tests.{eq-eqb, ne-eqb}
-use lib.Ieee.Fits.{and-l, and-r}
+use lib.Ieee.Fits.{and-r}
 use Rattle.exact.specs.Chains.{In}
 use Rattle.exact.proofs.Bools.{or-l}
 use Rattle.definitions.specs.Numbers.{0·0, finite, isZero, units}
@@ -24,7 +24,7 @@ use Rattle.rounding.proofs.Order.{lt-units}
 use Rattle.rounding.proofs.Reversed.{le-not-above}
 use Rattle.rounding.proofs.Zeros.{IsSize, plus-zero, size-of-negative, size-of-positive}
 use Rattle.steps.proofs.Sizes.{size-at, diagonal-at}
-use Rattle.steps.proofs.QuestionLaws.{then-first, then-next, ask-yes, rows-yes}
+use Rattle.steps.proofs.QuestionLaws.{then-first, then-next, one-stage, rows-yes}
 
 -- The questions of the numbers come last, whichever service asks.
 after-four : (a b c d x : Asked) → (a then b then c then d then x) ≡ pass → x ≡ pass
@@ -49,14 +49,13 @@ unfolding columnInput
 column-numbers reading n sheet room stage = then-next (columnShape reading n (length sheet) room stage) (numberQuestions 1 n sheet)
 
 pub column-stage : (reading n : ℕ) (sheet : List Float) (room stage : ℕ) → columnInput reading n sheet room stage ≡ pass → stage - 1 < n
-unfolding columnInput columnShape question5
+unfolding columnInput columnShape
 column-stage reading n sheet room stage e =
-    let inside = leb 1 stage && leb stage n in
     let five =
     after-four (columnReading reading) (question2 n) (question3 n (length sheet)) (question4 n room) (question5 n stage stage)
     (then-first (columnShape reading n (length sheet) room stage) (numberQuestions 1 n sheet) e) in
-    let t = and-l inside inside (ask-yes (inside && inside) 5 0 0 five) in
-    omega (arith, leb→le 1 stage (and-l (leb 1 stage) (leb stage n) t), leb→le stage n (and-r (leb 1 stage) (leb stage n) t))
+    let stages = one-stage n stage five in
+    omega arith
 
 less-or-equal : (x y : Float) → T (lt x y) → T (le x y)
 unfolding le

@@ -4,11 +4,10 @@ use Prim.Native.Nat.{ℕ, zero, suc, _+_, _-_, _≤_, _<_}
 use native.Mathlib.Nat.{le-antisymm, zero-add, sub-zero}
 use native.Mathlib.Numerals.{add-one}
 use native.Mathlib.Omega.{arith}
-use mathlib.Core.Bool.{Bool, true, false, not, _&&_, cond}
+use mathlib.Core.Bool.{Bool, true, not, _&&_, cond}
 use mathlib.Core.List.{List}
 use lib.Dec.{eqb}
-use lib.ListN.{length, set, length-set, List·getD-eq-default}
-use lib.Seq.{getD-set-same, getD-set-other}
+use lib.ListN.{length, set, List·getD-eq-default}
 use lib.Ieee.{Float, ne, binary64, ofBits}
 use lib.Ieee.Fits.{and-i, and-l, and-r}
 use Rattle.exact.proofs.Cases.{by-equal, by-order}
@@ -26,8 +25,8 @@ use Rattle.tables.specs.Operators.{replace}
 use Rattle.tables.specs.Rows.{Dot}
 use Rattle.tables.specs.Vectors.{IsVector, vector, VectorHolds}
 use Rattle.tables.proofs.Operators.{replace-same, replace-other}
-use Rattle.compact.specs.Listing.{marked}
-use Rattle.ratios.specs.Ratios.{ratio, diagonalOf, isKept, RatiosBefore, StageTested, RatiosTested}
+use Rattle.compact.proofs.Listings.{mask-begins, mask-turns}
+use Rattle.ratios.specs.Ratios.{ratio, diagonalOf, RatiosBefore, StageTested, RatiosTested}
 
 -- A number is not zero, with the literal of the program.
 not-zero : (x : Float) → ne x (ofBits binary64 0) ≡ not (isZero x)
@@ -44,13 +43,6 @@ nothing l = let z : ⊥ = omega arith in absurd z
 -- One more of those that are known before i.
 more : {A : Type 0} (g f : ℕ → A) (i : ℕ) (x : A) → ((j : ℕ) → j < i → f j ≡ g j) → x ≡ g i → (j : ℕ) → j < suc i → replace i x f j ≡ g j
 more g f i x known e j l = by-equal j i (λ q. rw q (replace-same i x f ∙ e)) (λ q. replace-other i x f j q ∙ known j (omega arith))
-
--- A mask with one more mark.
-mask-written : (mask : List Bool) (i : ℕ) (b : Bool) → i < length mask → (j : ℕ) → marked (set mask i b) j ≡ replace i b (marked mask) j
-mask-written mask i b l j =
-    by-equal j i
-    (λ e. rw e (getD-set-same mask i b false l ∙ sym (replace-same i b (marked mask))))
-    (λ n. getD-set-other mask i j b false n ∙ sym (replace-other i b (marked mask) j n))
 
 module _ (n : ℕ) (t : ℕ → ℕ → Float) (d : ℕ → Float) where
   k-beyond : (i j : ℕ) → i ≤ j → kBefore n t d i j ≡ 0·0
@@ -72,7 +64,7 @@ module _ (n : ℕ) (t : ℕ → ℕ → Float) (d : ℕ → Float) where
   unfolding all kBefore
   ratios-none p z q =
       record {
-        vectors = record { a-is = record { long = p; is = λ j l. nothing l }; k-is = z; kept-is = record { long = q; is = λ j l. nothing l } };
+        vectors = record { a-is = record { long = p; is = λ j l. nothing l }; k-is = z; kept-is = mask-begins q };
         range = refl;
       }
 
@@ -141,13 +133,7 @@ module _ (n : ℕ) (t : ℕ → ℕ → Float) (d : ℕ → Float) where
           vectors =
               record {
                 a-is = record { long = va .long; is = λ j g. ap (λ v. v j) (va .is) ∙ more (diagonalOf n t d) (vector a) i (m ⊕ s) (known .a-is .is) diagonal-is j g };
-                kept-is =
-                    record {
-                      long = length-set kept i (ne s (ofBits binary64 0)) ∙ known .kept-is .long;
-                      is = λ j g.
-                          mask-written kept i (ne s (ofBits binary64 0)) (omega (arith, known .kept-is .long)) j
-                          ∙ more (isKept n t d) (marked kept) i (ne s (ofBits binary64 0)) (known .kept-is .is) (not-zero s ∙ rw sum-is (sym (kept-is n t d (ratio n t d) i))) j g;
-                    };
+                kept-is = mask-turns (known .kept-is) room (not-zero s ∙ rw sum-is (sym (kept-is n t d (ratio n t d) i)));
                 k-is = record { long = vk .long; is = vk .is ∙ rw (known .k-is .is) (k-grows i (s ⊘ (m ⊕ s)) l (ap₂ _⊘_ sum-is diagonal-is)) };
               };
           range = rw (products-are, ef, eq, diagonal-is, sum-is) (stage-test (ratio n t d) i);

@@ -3,12 +3,11 @@ use mathlib.Core.Path.{_≡_}
 use Prim.Native.Nat.{ℕ, suc, _<_}
 use mathlib.Core.Bool.{Bool}
 use mathlib.Core.List.{List}
-use lib.ListN.{length}
 use lib.Ieee.{Float}
 use Rattle.definitions.specs.Numbers.{all}
 use Rattle.definitions.specs.Margins as Margins
 use Rattle.tables.specs.Vectors.{IsVector, vector, VectorHolds}
-use Rattle.compact.specs.Listing.{marked}
+use Rattle.compact.specs.Listing.{MaskOf}
 
 module _ (n : ℕ) (t : ℕ → ℕ → Float) (d : ℕ → Float) where
   -- k_j, and a_i and the kept stages by the k_j.
@@ -21,20 +20,16 @@ module _ (n : ℕ) (t : ℕ → ℕ → Float) (d : ℕ → Float) where
   abbrev pub isKept : ℕ → Bool
   isKept = Margins.kept n t d ratio
 
-  -- The vector a and the mask once the stages before i are done,
+  -- The vector a once the stages before i are done,
   pub record Diagonals (i : ℕ) (xs : List Float) : Type 0 where
     pub long : IsVector xs
     pub is : (j : ℕ) → j < i → vector xs j ≡ diagonalOf j
 
-  pub record KeptMask (i : ℕ) (mask : List Bool) : Type 0 where
-    pub long : length mask ≡ 32
-    pub is : (j : ℕ) → j < i → marked mask j ≡ isKept j
-
-  -- and k with them,
+  -- and with it k and the marks of the kept ones,
   pub record RatiosBefore (i : ℕ) (a k : List Float) (kept : List Bool) : Type 0 where
     pub a-is : Diagonals i a
     pub k-is : VectorHolds k (Margins.kBefore n t d i)
-    pub kept-is : KeptMask i kept
+    pub kept-is : MaskOf isKept i kept
 
   -- and whether stage i, or every stage before i, has its steps in range.
   pub record StageTested (i : ℕ) (ok : Bool) (a k : List Float) (kept : List Bool) : Type 0 where

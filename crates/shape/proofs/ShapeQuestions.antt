@@ -5,7 +5,7 @@ use borrow.Author.Tests.{not-false, eq-eqb, ne-eqb, leb-true, lt-leb, le-leb}
 use native.Mathlib.Omega.{arith}
 use mathlib.Core.List.{List}
 use Prim.Native.Nat.{ℕ, _*_, _≤_, _<_}
-use lib.Dec.{T, leb, eqb, leb→le, eqb→eq}
+use lib.Dec.{leb, eqb, leb→le, eqb→eq}
 use lib.ListN.{length}
 use lib.Ieee.{Float}
 use lib.Ieee.Fits.{and-l, and-r}
@@ -13,14 +13,11 @@ use Rattle.definitions.specs.Questions.{Asked, pass, _then_, question1, questio
 use Rattle.definitions.specs.File.{fileLength}
 use Rattle.definitions.specs.Saving.{saveQuestions}
 use Rattle.definitions.specs.Column.{columnReading, columnShape, columnInput}
-use Rattle.steps.proofs.QuestionLaws.{then-first, then-next, then-assoc, ask-yes}
+use Rattle.steps.proofs.QuestionLaws.{then-first, then-next, then-assoc, ask-yes, is-stage, one-stage}
 use Rattle.answers.specs.Outcome.{ComesTo}
 use Rattle.answers.proofs.Outcome.{all-pass, no, asked-no, asked-yes, in-other-words}
 use Rattle.exact.proofs.Bools.{and-second}
 use Rattle.shape.specs.Square.{Square}
-
-is-stage : (k n : ℕ) → T (leb 1 k && leb k n) → (1 ≤ k) × (k ≤ n)
-is-stage k n t = (leb→le 1 k (and-l (leb 1 k) (leb k n) t), leb→le k n (and-r (leb 1 k) (leb k n) t))
 
 few-stages : (n : ℕ) → question2 n ≡ pass → n ≤ 32
 unfolding question2
@@ -153,8 +150,7 @@ unfolding columnShape columnReading question5
 column-shape-passed reading n held room stage e =
     let one = eqb→eq reading 1 (ask-yes (eqb reading 1) 1 0 0 (then-first (columnReading reading) (question2 n then question3 n held then question4 n room then question5 n stage stage) e)) in
     let p = lengths-passed 1 n held (question4 n room then question5 n stage stage) (sym (column-shape n held room stage) ∙ (rw one at e)) in
-    let t = ask-yes (leb 1 stage && leb stage n && (leb 1 stage && leb stage n)) 5 0 0 (then-next (question4 n room) (question5 n stage stage) (p .2)) in
-    (one, p .0, p .1, room-held n room (then-first (question4 n room) (question5 n stage stage) (p .2)), is-stage stage n (and-l (leb 1 stage && leb stage n) (leb 1 stage && leb stage n) t))
+    (one, p .0, p .1, room-held n room (then-first (question4 n room) (question5 n stage stage) (p .2)), one-stage n stage (then-next (question4 n room) (question5 n stage stage) (p .2)))
 
 module _ (reading n : ℕ) (sheet : List Float) where
   pub column-square : (room stage : ℕ) → columnShape reading n (length sheet) room stage ≡ pass → Square n sheet

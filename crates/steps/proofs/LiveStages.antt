@@ -3,13 +3,13 @@
 use Prim.Native.Nat.{ℕ, _<_}
 use mathlib.Core.Bool.{Bool, true, false, not, _&&_, cond}
 use mathlib.Core.List.{List}
-use mathlib.Core.Path.{_≡_, refl, ap, ap₂, _∙_}
+use mathlib.Core.Path.{_≡_, refl, sym, ap, ap₂, _∙_}
 use native.Mathlib.Omega.{arith}
 use lib.ListN.{getD}
 use lib.Ieee.{Float}
 use lib.Ieee.Bits.{is-true}
-use Rattle.exact.proofs.Bools.{holds, contrary}
-use Rattle.exact.proofs.Cases.{by-bool}
+use borrow.Author.Tests.{not-true, not-false}
+use Rattle.exact.proofs.Bools.{holds}
 use Rattle.definitions.specs.Numbers.{0·0, isZero, all}
 use Rattle.definitions.specs.LeavingRates.{downward, quotient, shared, column, inRange}
 use Rattle.definitions.specs.Compact.{stagesWith, rank}
@@ -34,10 +34,10 @@ module _ (n : ℕ) (sheet : List Float) where
   live-is i = refl
 
   pub live-not-idle : (i : ℕ) → takesPart 1 n sheet i ≡ true → idle n sheet i ≡ false
-  live-not-idle i e = by-bool (idle n sheet i) (λ t. absurd (contrary (takesPart 1 n sheet i) e (live-is i ∙ ap not t))) (λ f. f)
+  live-not-idle i e = not-true (idle n sheet i) (sym (live-is i) ∙ e)
 
   pub left-out-idle : (i : ℕ) → takesPart 1 n sheet i ≡ false → idle n sheet i ≡ true
-  left-out-idle i e = by-bool (idle n sheet i) (λ t. t) (λ f. absurd (contrary (takesPart 1 n sheet i) (live-is i ∙ ap not f) e))
+  left-out-idle i e = not-false (idle n sheet i) (sym (live-is i) ∙ e)
 
   pub live-count : liveCount n sheet ≡ rank (takesPart 1 n sheet) n
   unfolding liveCount

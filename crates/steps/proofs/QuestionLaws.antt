@@ -1,14 +1,15 @@
 -- Laws of the questions: one after another, and what it says of a sheet that they are answered yes.
-use Prim.Native.Nat.{ℕ, zero, suc, _+_, _<_}
-use mathlib.Core.Bool.{Bool, true, false}
+use Prim.Native.Nat.{ℕ, zero, suc, _+_, _≤_, _<_}
+use mathlib.Core.Bool.{Bool, true, false, _&&_}
 use mathlib.Core.Path.{_≡_, refl, ap₂, _∙_}
 use native.Mathlib.Omega.{arith}
-use lib.Dec.{T}
+use lib.Dec.{T, leb, leb→le}
+use lib.Ieee.Fits.{and-l, and-r}
 use Rattle.exact.specs.Chains.{In}
 use Rattle.exact.proofs.Sums.{none-in, on-range}
 use lib.Ieee.Bits.{is-true}
 use Rattle.definitions.specs.Services.{given, answer}
-use Rattle.definitions.specs.Questions.{Asked, pass, refuse, _then_, ask, askRow, askRows, askStages}
+use Rattle.definitions.specs.Questions.{Asked, pass, refuse, _then_, ask, askRow, askRows, askStages, question5}
 
 -- An answer is a pass or a refusal.
 pub never-both : {q : Asked} {number row column : ℕ} → q ≡ refuse number row column → q ≡ pass → ⊥
@@ -39,6 +40,16 @@ given-is (refuse number row column) value due e = cc
 pub ask-yes : (b : Bool) (n i j : ℕ) → ask b n i j ≡ pass → T b
 ask-yes true n i j e = tt
 ask-yes false n i j e = absurd (let z : _≡_ {A = ℕ} 0 1 = cc in omega arith)
+
+-- Question 5, of one stage.
+pub is-stage : (k n : ℕ) → T (leb 1 k && leb k n) → (1 ≤ k) × (k ≤ n)
+is-stage k n t = (leb→le 1 k (and-l (leb 1 k) (leb k n) t), leb→le k n (and-r (leb 1 k) (leb k n) t))
+
+pub one-stage : (n stage : ℕ) → question5 n stage stage ≡ pass → (1 ≤ stage) × (stage ≤ n)
+unfolding question5
+one-stage n stage e =
+    let inside = leb 1 stage && leb stage n in
+    is-stage stage n (and-l inside inside (ask-yes (inside && inside) 5 0 0 e))
 
 yes-ask : (b : Bool) (n i j : ℕ) → T b → ask b n i j ≡ pass
 yes-ask b n i j t = rw (is-true b t)
