@@ -102,10 +102,13 @@ question9 reading n sheet = let asked = askStages (notTrapped n sheet) 9 0 n in 
 unfoldable pub question10 : ℕ → ℕ → List Float → Asked
 question10 reading n sheet = ask (everyStepInRange reading n sheet) 10 0 0
 
+-- 6 to 8: of each number by itself.
+unfoldable pub placeQuestions : ℕ → ℕ → List Float → Asked
+placeQuestions reading n sheet = question6 n sheet then question7 reading n sheet then question8 n sheet
+
 -- 6 to 9: of the numbers, before any step is taken.
 unfoldable pub numberQuestions : ℕ → ℕ → List Float → Asked
-numberQuestions reading n sheet =
-    question6 n sheet then question7 reading n sheet then question8 n sheet then question9 reading n sheet
+numberQuestions reading n sheet = placeQuestions reading n sheet then question9 reading n sheet
 
 -- The whole table is asked 1, 2, 3, 4, 6, 7, 8, 9 and 10; `room` is the length of the answer area.
 unfoldable pub tableInput : ℕ → ℕ → List Float → ℕ → Asked

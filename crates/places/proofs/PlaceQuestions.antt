@@ -5,8 +5,8 @@ use mathlib.Core.Bool.{Bool}
 use Prim.Native.Nat.{ℕ}
 use lib.Ieee.{Float}
 use Rattle.definitions.specs.Sheet.{place}
-use Rattle.definitions.specs.Questions.{_then_, question6, question7, question8, rightSign}
-use Rattle.places.specs.PlaceQuestions.{signAt, passes, askPlaces, placeQuestions}
+use Rattle.definitions.specs.Questions.{_then_, question6, question7, question8, rightSign, placeQuestions}
+use Rattle.places.specs.PlaceQuestions.{signAt, passes, askPlaces}
 use Rattle.steps.proofs.Searches.{fromRow, all-rows}
 
 module _ (reading n : ℕ) (sheet : List Float) where

@@ -6,7 +6,7 @@ use lib.Dec.{eqb}
 use lib.Ieee.{Float, lt, le}
 use Rattle.definitions.specs.Numbers.{0·0, finite}
 use Rattle.definitions.specs.Sheet.{place}
-use Rattle.definitions.specs.Questions.{Asked, _then_, askRows, question6, question7, question8, largeEnough}
+use Rattle.definitions.specs.Questions.{Asked, askRows, largeEnough}
 
 -- 7, of the number x at row i and column j.
 unfoldable pub signAt : ℕ → ℕ → ℕ → Float → Bool
@@ -19,7 +19,3 @@ passes question reading i j x = cond (eqb question 6) (finite x) (cond (eqb ques
 -- Of every place, row by row.
 unfoldable pub askPlaces : ℕ → ℕ → ℕ → List Float → Asked
 askPlaces question reading n sheet = askRows (λ i j. passes question reading i j (place n sheet i j)) question n 0 n
-
--- All three, each of the whole sheet before the next.
-unfoldable pub placeQuestions : ℕ → ℕ → List Float → Asked
-placeQuestions reading n sheet = question6 n sheet then question7 reading n sheet then question8 n sheet

@@ -14,11 +14,11 @@ use borrow.Author.Count.{below-more}
 use borrow.Rule.Slice.PartMut.{midOf, mid-len}
 use Rattle.exact.proofs.Cases.{by-equal, by-order}
 use Rattle.definitions.specs.Sheet.{place}
-use Rattle.definitions.specs.Questions.{pass}
+use Rattle.definitions.specs.Questions.{pass, placeQuestions}
 use Rattle.steps.proofs.QuestionLaws.{rows-pass}
 use Rattle.shape.specs.Square.{Square}
 use Rattle.shape.proofs.Square.{place-inside}
-use Rattle.places.specs.PlaceQuestions.{passes, askPlaces, placeQuestions}
+use Rattle.places.specs.PlaceQuestions.{passes, askPlaces}
 use Rattle.places.proofs.PlaceQuestions.{in-order}
 use Rattle.quick.specs.QuickPass.{PassesOff, DiagonalPasses, StretchPasses, SizesPass}
 

@@ -2,9 +2,8 @@
 // questions pass. There is no branch in its tests, so that a loop over many numbers is fast.
 ghost use mathlib.Core.Path.{_≡_};
 ghost use lib.Dec.{T};
-ghost use Rattle.definitions.specs.Questions.{pass};
+ghost use Rattle.definitions.specs.Questions.{pass, placeQuestions};
 ghost use Rattle.shape.specs.Square.{Square};
-ghost use Rattle.places.specs.PlaceQuestions.{placeQuestions};
 ghost use Rattle.quick.specs.QuickPass.{DiagonalPasses, StretchPasses, SizesPass};
 use shape::number_at;
 

@@ -16,7 +16,7 @@ use Rattle.exact.proofs.Bools.{or-l}
 use Rattle.definitions.specs.Numbers.{0·0, finite, isZero, units}
 use Rattle.definitions.specs.Sheet.{place, size, diagonal}
 use Rattle.definitions.specs.Accuracy.{Binary64}
-use Rattle.definitions.specs.Questions.{Asked, pass, _then_, question1, question2, question3, question4, question5, question6, rightSign, question7, question8, moves, leaves, question9, numberQuestions, tableInput, entryInput}
+use Rattle.definitions.specs.Questions.{Asked, pass, _then_, question1, question2, question3, question4, question5, rightSign, moves, leaves, question9, placeQuestions, numberQuestions, tableInput, entryInput}
 use Rattle.definitions.specs.Column.{columnReading, columnShape, columnInput}
 use Rattle.rounding.specs.Good.{Good}
 use Rattle.rounding.proofs.Laws.{zero-is-good, units-zero, is-zero}
@@ -24,7 +24,7 @@ use Rattle.rounding.proofs.Order.{lt-units}
 use Rattle.rounding.proofs.Reversed.{le-not-above}
 use Rattle.rounding.proofs.Zeros.{IsSize, plus-zero, size-of-negative, size-of-positive}
 use Rattle.steps.proofs.Sizes.{size-at, diagonal-at}
-use Rattle.steps.proofs.QuestionLaws.{then-first, then-next, one-stage, rows-yes}
+use Rattle.steps.proofs.QuestionLaws.{then-first, then-next, one-stage, number-finite, number-sign}
 
 -- The questions of the numbers come last, whichever service asks.
 after-four : (a b c d x : Asked) → (a then b then c then d then x) ≡ pass → x ≡ pass
@@ -74,43 +74,30 @@ not-zero-pos (suc a) t = omega arith
 
 -- Questions 6 and 7: an off-diagonal number that is zero or negative and a diagonal one that is zero or positive leave good numbers.
 module _ (reading n : ℕ) (sheet : List Float) (fit : Binary64 sheet) (e : numberQuestions reading n sheet ≡ pass) where
-  after-finite : question7 reading n sheet then question8 n sheet then question9 reading n sheet ≡ pass
+  places : placeQuestions reading n sheet ≡ pass
   unfolding numberQuestions
-  after-finite = then-next (question6 n sheet) (question7 reading n sheet then question8 n sheet then question9 reading n sheet) e
-
-  number-finite : (i j : ℕ) → i < n → j < n → T (finite (place n sheet i j))
-  unfolding numberQuestions question6
-  number-finite =
-      rows-yes (λ i j. finite (place n sheet i j)) 6 n
-      (then-first (question6 n sheet) (question7 reading n sheet then question8 n sheet then question9 reading n sheet) e)
-
-  number-sign : (i j : ℕ) → i < n → j < n → T (rightSign reading n sheet i j)
-  unfolding question7
-  number-sign =
-      rows-yes (rightSign reading n sheet) 7 n
-      (then-first (question7 reading n sheet) (question8 n sheet then question9 reading n sheet) after-finite)
+  places = then-first (placeQuestions reading n sheet) (question9 reading n sheet) e
 
   pub last-question : question9 reading n sheet ≡ pass
-  last-question =
-      then-next (question8 n sheet) (question9 reading n sheet)
-      (then-next (question7 reading n sheet) (question8 n sheet then question9 reading n sheet) after-finite)
+  unfolding numberQuestions
+  last-question = then-next (placeQuestions reading n sheet) (question9 reading n sheet) e
 
   pub size-is : (i j : ℕ) → i < n → j < n → i ≢ j → IsSize (place n sheet i j) (size n sheet i j)
   unfolding rightSign Binary64
   size-is i j hi hj d =
       rw (size-at n sheet i j hi hj d)
-      (size-of-negative (place n sheet i j) (fit (i * n + j)) (number-finite i j hi hj)
-      (le-not-above (place n sheet i j) 0·0 (rw (ne-eqb i j d) at (number-sign i j hi hj))))
+      (size-of-negative (place n sheet i j) (fit (i * n + j)) (number-finite reading n sheet places i j hi hj)
+      (le-not-above (place n sheet i j) 0·0 (rw (ne-eqb i j d) at (number-sign reading n sheet places i j hi hj))))
 
   diagonal-sign : (i : ℕ) → i < n → T (cond (eqb reading 1) (le 0·0 (place n sheet i i)) (lt 0·0 (place n sheet i i)))
   unfolding rightSign
-  diagonal-sign i h = rw (eq-eqb i i refl) at (number-sign i i h h)
+  diagonal-sign i h = rw (eq-eqb i i refl) at (number-sign reading n sheet places i i h h)
 
   pub diagonal-is : (i : ℕ) → i < n → IsSize (place n sheet i i) (diagonal n sheet i)
   unfolding Binary64
   diagonal-is i h =
       rw (diagonal-at n sheet i h)
-      (size-of-positive (place n sheet i i) (fit (i * n + i)) (number-finite i i h h)
+      (size-of-positive (place n sheet i i) (fit (i * n + i)) (number-finite reading n sheet places i i h h)
       (le-not-above 0·0 (place n sheet i i) (either (eqb reading 1) (diagonal-sign i h))))
     where
       either : (c : Bool) → T (cond c (le 0·0 (place n sheet i i)) (lt 0·0 (place n sheet i i))) → T (le 0·0 (place n sheet i i))
@@ -125,7 +112,7 @@ unfolding Binary64
 input-positive n sheet fit e i h =
     let x = place n sheet i i in
     let l : T (lt 0·0 x) = diagonal-sign 2 n sheet fit e i h in
-    let g = positive-good x (fit (i * n + i)) (number-finite 2 n sheet fit e i i h h) l in
+    let g = positive-good x (fit (i * n + i)) (number-finite 2 n sheet (places 2 n sheet fit e) i i h h) l in
     rw (diagonal-at n sheet i h, plus-zero g) (ltb→lt 0 (units x) (rw (lt-units zero-is-good g, units-zero) at l))
 
 -- Reading 1: moves are nonzero sizes, and exits nonzero leaving rates.

@@ -1,10 +1,9 @@
 // Questions 1 to 9 of document 01, in its order, for the whole table, one column and one entry. The three
 // public calls have no `requires`: each question is asked only where the ones before it passed.
-ghost use Rattle.definitions.specs.Questions.{numberQuestions, tableInput, entryInput};
+ghost use Rattle.definitions.specs.Questions.{placeQuestions, numberQuestions, tableInput, entryInput};
 ghost use Rattle.definitions.specs.Column.{columnInput};
 ghost use Rattle.answers.specs.Outcome.{ComesTo};
 ghost use Rattle.shape.specs.Square.{Square};
-ghost use Rattle.places.specs.PlaceQuestions.{placeQuestions};
 use answers::Asked;
 use places::ask_places;
 

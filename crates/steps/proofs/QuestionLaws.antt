@@ -1,15 +1,19 @@
 -- Laws of the questions: one after another, and what it says of a sheet that they are answered yes.
 use Prim.Native.Nat.{ℕ, zero, suc, _+_, _≤_, _<_}
 use mathlib.Core.Bool.{Bool, true, false, _&&_}
+use mathlib.Core.List.{List}
 use mathlib.Core.Path.{_≡_, refl, ap₂, _∙_}
 use native.Mathlib.Omega.{arith}
 use lib.Dec.{T, leb, leb→le}
+use lib.Ieee.{Float}
 use lib.Ieee.Fits.{and-l, and-r}
 use Rattle.exact.specs.Chains.{In}
 use Rattle.exact.proofs.Sums.{none-in, on-range}
 use lib.Ieee.Bits.{is-true}
+use Rattle.definitions.specs.Numbers.{finite}
+use Rattle.definitions.specs.Sheet.{place}
 use Rattle.definitions.specs.Services.{given, answer}
-use Rattle.definitions.specs.Questions.{Asked, pass, refuse, _then_, ask, askRow, askRows, askStages, question5}
+use Rattle.definitions.specs.Questions.{Asked, pass, refuse, _then_, ask, askRow, askRows, askStages, question5, question6, rightSign, question7, largeEnough, question8, placeQuestions}
 
 -- An answer is a pass or a refusal.
 pub never-both : {q : Asked} {number row column : ℕ} → q ≡ refuse number row column → q ≡ pass → ⊥
@@ -80,6 +84,24 @@ pub stages-yes : (good : ℕ → Bool) (number n : ℕ) → askStages good numbe
 unfolding askStages
 stages-yes good number n e i h =
     ask-yes (good i) number (suc i) 0 (scan-yes (λ i. ask (good i) number (suc i) 0) (askStages good number) (λ i m. refl) 0 n e i (omega arith))
+
+-- Questions 6, 7 and 8, of each number.
+module _ (reading n : ℕ) (sheet : List Float) (e : placeQuestions reading n sheet ≡ pass) where
+  after-finite : question7 reading n sheet then question8 n sheet ≡ pass
+  unfolding placeQuestions
+  after-finite = then-next (question6 n sheet) (question7 reading n sheet then question8 n sheet) e
+
+  pub number-finite : (i j : ℕ) → i < n → j < n → T (finite (place n sheet i j))
+  unfolding placeQuestions question6
+  number-finite = rows-yes (λ i j. finite (place n sheet i j)) 6 n (then-first (question6 n sheet) (question7 reading n sheet then question8 n sheet) e)
+
+  pub number-sign : (i j : ℕ) → i < n → j < n → T (rightSign reading n sheet i j)
+  unfolding question7
+  number-sign = rows-yes (rightSign reading n sheet) 7 n (then-first (question7 reading n sheet) (question8 n sheet) after-finite)
+
+  pub number-large : (i j : ℕ) → i < n → j < n → T (largeEnough (place n sheet i j))
+  unfolding question8
+  number-large = rows-yes (λ i j. largeEnough (place n sheet i j)) 8 n (then-next (question7 reading n sheet) (question8 n sheet) after-finite)
 
 -- The other way round.
 scan-pass :
