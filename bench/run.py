@@ -1,14 +1,16 @@
 #!/usr/bin/env python3
-"""Times and errors of the proved table and column beside plain C and LAPACK, in one run on one machine.
+"""Times and errors of the proved services beside plain C and LAPACK, in one run on one machine.
 
     python3 bench/run.py [--quick] [--no-errors] [--goals] [--sizes 2,4,8-12] [--against libhosts.a]
 
 builds the proved library (`rt staticlib hosts`), bench/steps.c and bench/time.c into target/bench, checks
-that all give the same bits and decisions, and prints five tables.  With --against the library of another
-commit runs beside it, and a last table says for each n whether sheets without idle stages take at most 1.03
-of its time.  Standard library only; nothing is installed.  Exit status 1 if bits or decisions differ, or an
-error is above its allowance; with --goals also if one column takes more of the whole table's time than it
-should, or a sheet more of the other library's, which other work on the machine can bring about.
+that all give the same bits and decisions, and prints six parts: the time of a whole table, of sheets at the
+edge of the range, errors, the time of one column, of sheets with idle stages, and of moving a sheet to
+another time unit.  With --against the library of another commit runs beside it, and a last table says for
+each n whether sheets without idle stages take at most 1.03 of its time.  Standard library only; nothing is
+installed.  Exit status 1 if bits or decisions differ, or an error is above its allowance; with --goals also
+if one column takes more of the whole table's time than it should, or a sheet more of the other library's,
+which other work on the machine can bring about.
 """
 from __future__ import annotations
 
@@ -23,7 +25,7 @@ import sys
 from dataclasses import dataclass
 from fractions import Fraction
 from pathlib import Path
-from typing import Callable, Iterable, Optional, Sequence
+from typing import Callable, Iterable, Optional, Sequence, Union
 
 sys.path.insert(0, str(Path(__file__).resolve().parent))
 import sheets  # noqa: E402  the path comes first
@@ -41,10 +43,14 @@ WHOLE, COLUMN, OTHER_COLUMN, UNCHECKED_COLUMN, CHECKED_COLUMN = (
     "yulanbowls, whole table", "yulanbowls, one column", "other library, one column", "C -O3, one column",
     "checked C -O3, one column")
 ONE_COLUMN = [COLUMN, OTHER_COLUMN, UNCHECKED_COLUMN, CHECKED_COLUMN]
-DECIDES = [OURS, OTHER, "checked C -O3", "checked C -O2", WHOLE, COLUMN, OTHER_COLUMN, CHECKED_COLUMN]
+MOVING, OTHER_MOVING, UNCHECKED_MOVING = "yulanbowls, moving", "other library, moving", "C -O3, moving"
+DECIDES = [OURS, OTHER, "checked C -O3", "checked C -O2", WHOLE, COLUMN, OTHER_COLUMN, CHECKED_COLUMN, MOVING,
+           OTHER_MOVING]
 GOALS = {8: 0.7, 32: 0.55}      # the most of the whole table's time that one column takes, for these n
 OTHER_GOAL = 1.03               # the most of the other library's time that a sheet without idle stages takes
-OTHER_NAMES = {"yulanbowls_table": "other_table", "yulanbowls_column": "other_column"}
+OTHER_NAMES = {"yulanbowls_table": "other_table", "yulanbowls_column": "other_column",
+               "yulanbowls_move": "other_move"}
+POWERS = [10, 512, -512]        # the k for which moving by 2^k is timed
 UNIT = 2.0 ** -53
 
 failures: list[str] = []
@@ -85,7 +91,7 @@ def build_library() -> None:
 
 
 def renamed(archive: Path) -> Path:
-    """Another library as one object that shows its table and its column alone, under other names."""
+    """Another library as one object that shows its table, its column and its move alone, under other names."""
     one = BUILD / "other.o"
     run(["ld", "-r", "--whole-archive", archive, "-o", one])
     run(["objcopy", *(f"--keep-global-symbol={name}" for name in OTHER_NAMES), one])
@@ -94,10 +100,12 @@ def renamed(archive: Path) -> Path:
 
 
 def other_flags(other: Optional[Path]) -> list[str]:
-    """What time.c is told of the other library, which has no column if it is older than that."""
+    """What time.c is told of the other library, which has no column or no move if it is older than these."""
     if other is None:
         return []
-    return ["-DOTHER", *(["-DOTHER_COLUMN"] if b" T yulanbowls_column\n" in run(["nm", other]).stdout else [])]
+    symbols = run(["nm", other]).stdout
+    later = {"-DOTHER_COLUMN": b" T yulanbowls_column\n", "-DOTHER_MOVE": b" T yulanbowls_move\n"}
+    return ["-DOTHER", *(flag for flag, symbol in later.items() if symbol in symbols)]
 
 
 def build(other: Optional[Path]) -> Path:
@@ -114,7 +122,7 @@ def build(other: Optional[Path]) -> Path:
               "    apt-get install libopenblas-dev\n")
     program = BUILD / "time"
     run(["cc", *COMMON, "-O2", *(["-DLAPACK"] if lapack else []), *other_flags(other), "-I", ROOT / "include",
-         ROOT / "bench" / "time.c", *objects, ARCHIVE, *(["-lopenblas"] if lapack else []), "-o", program])
+         ROOT / "bench" / "time.c", *objects, ARCHIVE, *(["-lopenblas"] if lapack else []), "-lm", "-o", program])
     return program
 
 
@@ -129,13 +137,15 @@ class Group:
     batches: int = 0
     matrices: Optional[list[list[float]]] = None    # A column by column, for LAPACK
     stages: Optional[list[int]] = None              # for each sheet the one whose column is asked for
+    powers: Optional[list[int]] = None              # for each sheet the k of the 2^k that it is moved by
 
     def words(self) -> bytes:
         """What time.c reads."""
         matrices = self.matrices or [nearest_matrix(self.reading, self.n, sheet) for sheet in self.sheets]
         numbers = [x for sheet in [*self.sheets, *matrices] for x in sheet]
-        stages = self.stages or [0] * len(self.sheets)
-        return struct.pack(f"<{4 + len(stages)}Q", self.reading, self.n, len(self.sheets), self.batches, *stages) + \
+        about = 1 if self.stages else 2 if self.powers else 0
+        asked = self.stages or self.powers or [0] * len(self.sheets)
+        return struct.pack(f"<5Q{len(asked)}q", self.reading, self.n, len(self.sheets), self.batches, about, *asked) + \
             struct.pack(f"<{len(numbers)}d", *numbers)
 
 
@@ -194,19 +204,29 @@ def bits(numbers: Iterable[float]) -> list[int]:
     return [reference.bits_of(x) for x in numbers]
 
 
+def expected_answer(group: Group, at: int, one_column: bool) -> Union[Sequence[float], reference.Refused]:
+    """The numbers that the reference gives for a sheet of a group, or its refusal."""
+    asked = group.reading, group.n, group.sheets[at]
+    if group.powers:
+        moved = reference.move(*asked, group.powers[at], group.n ** 2)
+        return moved.numbers if isinstance(moved, reference.Moved) else moved
+    made = reference.column(*asked, group.stages[at], group.n) if one_column else reference.table(*asked, group.n ** 2)
+    return made if isinstance(made, reference.Refused) else made.entries
+
+
 def check_answers(what: str, group: Group, found: dict[str, Result]) -> None:
     """The candidates beside the independent reference: the same decision where they make one, no number
     written where it is no, and the same bits where it is yes.  LAPACK has other bits."""
-    for at, sheet in enumerate(group.sheets):
-        table = reference.table(group.reading, group.n, sheet, group.n ** 2)
-        column = group.stages and reference.column(group.reading, group.n, sheet, group.stages[at], group.n)
+    for at in range(len(group.sheets)):
+        whole = expected_answer(group, at, one_column=False)
+        column = expected_answer(group, at, one_column=True) if group.stages else []
         for name in found.keys() - {LAPACK}:
             number, numbers = found[name].answers[at]
             where = f"{name}, {what}, reading {group.reading}, n = {group.n}, sheet {at + 1}"
-            expected = column if name in ONE_COLUMN else table
+            expected = column if name in ONE_COLUMN else whole
             if not isinstance(expected, reference.Refused):
                 check(number == 0, f"{where}: refused with {number}")
-                check(bits(numbers) == bits(expected.entries), f"{where}: other bits than the reference")
+                check(bits(numbers) == bits(expected), f"{where}: other bits than the reference")
             elif name in DECIDES:
                 check(number == expected.number, f"{where}: answered {number}, not {expected.number}")
                 check(not any(bits(numbers)), f"{where}: refused, and wrote")
@@ -270,16 +290,17 @@ def timing_groups(reading: int, sizes: Sequence[int], batches: int,
     return groups
 
 
-def print_times(sizes: Sequence[int], results: Sequence[dict[str, Result]], against: Sequence[str]) -> None:
+def print_times(sizes: Sequence[object], results: Sequence[dict[str, Result]], against: Sequence[str],
+                by: str = "n") -> None:
     """Nanoseconds, then every row's time over that of the rows named in `against`."""
     columns, names = [str(n) for n in sizes], list(results[0])
-    print_table(["nanoseconds, n =", *columns],
+    print_table([f"nanoseconds, {by} =", *columns],
                 [[name, *(f"{found[name].nanoseconds:.0f}" for found in results)] for name in names])
     for base in against:
         if base in names:
             rows = [[name, *(three_digits(found[name].nanoseconds / found[base].nanoseconds) for found in results)]
                     for name in names if name != base]
-            print_table([f"time / {base}'s, n =", *columns], rows)
+            print_table([f"time / {base}'s, {by} =", *columns], rows)
 
 
 def machine_line(lapack: str) -> str:
@@ -583,7 +604,47 @@ def part_idle(program: Path, sizes: Sequence[int], batches: int) -> None:
                  for name, of_name in kinds.items() for kind in of_name])
 
 
-# ==== 6. Beside the other library ====
+# ==== 6. Moving ====
+
+def move_groups(sizes: Sequence[int], batches: int) -> list[Group]:
+    """Four dense sheets of reading 1 for each size and each k."""
+    return [without_matrices(Group(1, group.n, group.sheets, batches, powers=[k] * len(group.sheets)))
+            for group in timing_groups(1, sizes, batches, lambda rng, n: sheets.dense(rng, n, 0.01)) for k in POWERS]
+
+
+def move_edge_groups(rng: random.Random, count: int) -> list[Group]:
+    """Sheets of either reading, each moved by two k, mostly such that a number comes to an end of the range of results
+    or beside it; first the ends themselves.  A product of (2 − 2^-52)·2^-511 rounds to 2^-1022 from below."""
+    nearly_two = 2 - 2.0 ** -52
+    groups = [Group(1, 1, [[2.0 ** -510], [2.0 ** -511], [nearly_two * 2.0 ** -511]], powers=[-512] * 3),
+              Group(1, 1, [[nearly_two * 2.0 ** 511], [2.0 ** 512]], powers=[512] * 2)]
+    while len(groups) < count:
+        reading, n = rng.choice([1, 2]), rng.randint(1, 5)
+        sheet = reference.sheet_to_move(rng, reading, n)
+        groups.append(Group(reading, n, [sheet] * 2, powers=[reference.random_power(rng, sheet) for _ in range(2)]))
+    return [without_matrices(group) for group in groups]
+
+
+def part_moving(program: Path, sizes: Sequence[int], batches: int) -> None:
+    """Moving beside a loop of plain C."""
+    timed, edges = move_groups(sizes, batches), move_edge_groups(random.Random(9), 40)
+    before = len(failures)
+    _, results = run_groups(program, [*timed, *edges])
+    for at, (group, found) in enumerate(zip([*timed, *edges], results)):
+        check_answers("timing sheet" if at < len(timed) else "end of the range", group, found)
+    print(f"6. Time of moving a sheet to another time unit, every number times 2^k, reading 1, best of {batches}\n"
+          "batches of at least 20 microseconds; the rows take turns. Four dense sheets for each n. yulanbowls: all\n"
+          "questions and the writing of the second area. C: bench/steps.c, a loop that multiplies by ldexp(1, k), no\n"
+          "questions.\n")
+    if len(failures) == before:
+        moves = sum(len(group.sheets) for group in edges)
+        print(f"Same bits and decisions as tools/reference.py on the timing sheets and on {moves} moves near an end of\n"
+              "the range of results.\n")
+    print_times([f"{group.n}, {group.powers[0]}" for group in timed], results[:len(timed)],
+                [UNCHECKED_MOVING, OTHER_MOVING], "n and k")
+
+
+# ==== 7. Beside the other library ====
 
 def part_beside(sizes: Sequence[int], beside: Beside, must: bool) -> None:
     """The goal beside the other library for each size; it is a check where it must be met."""
@@ -591,7 +652,7 @@ def part_beside(sizes: Sequence[int], beside: Beside, must: bool) -> None:
     for what, ratios in beside.items():
         rows.append([what, *(f"{ratio:.3f}" for ratio in ratios)])
         rows.append(["", *("met" if ratio <= OTHER_GOAL else "missed" for ratio in ratios)])
-    print("6. Time of sheets without idle stages over the other library's. The goal is at most "
+    print("7. Time of sheets without idle stages over the other library's. The goal is at most "
           f"{OTHER_GOAL} for every n.\n")
     print_table(["time / other library's, n =", *(str(n) for n in sizes)], rows)
     for what, ratios in beside.items():
@@ -608,7 +669,7 @@ def parsed_sizes(text: str) -> list[int]:
 
 
 def parsed(arguments: Sequence[str]) -> argparse.Namespace:
-    parser = argparse.ArgumentParser(description="Times and errors of the proved table and column, plain C and LAPACK.")
+    parser = argparse.ArgumentParser(description="Times and errors of the proved services, plain C and LAPACK.")
     parser.add_argument("--quick", action="store_true", help="few batches and small sheets, for a test")
     parser.add_argument("--no-errors", action="store_true", help="leave out the table of errors")
     parser.add_argument("--goals", action="store_true", help="fail if one column takes too much of the table's time, "
@@ -636,6 +697,7 @@ def main(arguments: Sequence[str]) -> int:
         part_errors(program, [4, 8] if options.quick else [4, 8, 16, 32])
     beside |= part_columns(program, options.sizes, batches, options.goals)
     part_idle(program, [n for n in options.sizes if n > 1], batches // 5)
+    part_moving(program, [8, 32], batches // 5)
     if beside:
         part_beside(options.sizes, beside, options.goals)
     print(f"{len(failures)} checks failed" if failures else "All checks passed")

@@ -1,12 +1,12 @@
 /* Runs every candidate on the sheets that run.py hands over on standard input, and prints what each
    answered and its best time.
 
-   Input, in 8-byte words, group after group: reading, n, how many sheets, how many batches, for each sheet the
-   stage whose column is asked for, or 0 for all of them if the group is about whole tables, the sheets row by
-   row, then for each sheet its matrix A column by column. Output: a line with OpenBLAS's build and kernels, or
-   "none"; then for each group a line with the number of its candidates, and for each of them a line with the
-   name, a tab and the nanoseconds for one call (0 without batches), and a line for each sheet: 0 or the number
-   of the refusal, and the words of the answer in hexadecimal, n × n of a table and n of a column. */
+   Input, in 8-byte words, group after group: reading, n, how many sheets, how many batches, what the group is about
+   (0 whole tables, 1 one column, 2 moving), for each sheet the stage whose column is asked for, or the k of the 2^k
+   that it is moved by, or 0, the sheets row by row, then for each sheet its matrix A column by column. Output: a line
+   with OpenBLAS's build and kernels, or "none"; then for each group a line with the number of its candidates, and for
+   each of them a line with the name, a tab and the nanoseconds for one call (0 without batches), and a line for each
+   sheet: 0 or the number of the refusal, and the words of the answer in hexadecimal, n of a column and else n × n. */
 #define _POSIX_C_SOURCE 200809L
 #include <stdint.h>
 #include <stdio.h>
@@ -16,21 +16,22 @@
 
 #include "yulanbowls.h"
 
-enum { LIMIT = 32, MOST = LIMIT * LIMIT, WORKSPACE = 64 * LIMIT, MOST_GROUPS = 256, MOST_CANDIDATES = 13 };
+enum { LIMIT = 32, MOST = LIMIT * LIMIT, WORKSPACE = 64 * LIMIT, MOST_GROUPS = 256, MOST_CANDIDATES = 16 };
 enum { TURN = 10 };                           /* batches of a group before the next group has its turn */
 static const double shortest_batch = 20000.0; /* nanoseconds: long beside what a look at the clock costs */
 
 struct group {
-    uint64_t reading, n, sheets, batches;
-    uint64_t *stages; /* whose column is asked for, of each sheet; 0 where whole tables are */
+    uint64_t reading, n, sheets, batches, about;
+    int64_t *asked; /* of each sheet the stage whose column is asked for, or the k that it is moved by */
     double *numbers, *matrices;
     uint64_t calls[MOST_CANDIDATES]; /* in a batch */
     double best[MOST_CANDIDATES];
 };
 
-/* The groups that a candidate takes part in: those about whole tables, of both readings or of reading 1, or
-   those about one column, where whole tables stand beside the columns. */
-enum part { TABLES, TABLES_OF_RATES, COLUMNS };
+/* The groups that a candidate takes part in: those about whole tables, those about one column, where whole tables
+   stand beside the columns, those about moving, each under its number in the input, or those about whole tables
+   that have reading 1. */
+enum part { TABLES, COLUMNS, MOVES, TABLES_OF_RATES };
 
 struct candidate {
     const char *name;
@@ -53,8 +54,14 @@ static size_t proved(const struct group *g, size_t at, double *answer)
 static size_t proved_column(const struct group *g, size_t at, double *answer)
 {
     size_t allowance, row, column;
-    return yulanbowls_column(g->reading, g->n, sheet_of(g, at), g->n * g->n, g->stages[at], answer, g->n, &allowance,
-                             &row, &column);
+    return yulanbowls_column(g->reading, g->n, sheet_of(g, at), g->n * g->n, (size_t)g->asked[at], answer, g->n,
+                             &allowance, &row, &column);
+}
+
+static size_t proved_move(const struct group *g, size_t at, double *answer)
+{
+    size_t row, column, places = g->n * g->n;
+    return yulanbowls_move(g->reading, g->n, sheet_of(g, at), places, g->asked[at], answer, places, &row, &column);
 }
 
 #ifdef OTHER
@@ -76,8 +83,19 @@ size_t other_column(size_t reading, size_t n, const double *sheet, size_t sheet_
 static size_t other_one(const struct group *g, size_t at, double *answer)
 {
     size_t allowance, row, column;
-    return other_column(g->reading, g->n, sheet_of(g, at), g->n * g->n, g->stages[at], answer, g->n, &allowance, &row,
-                        &column);
+    return other_column(g->reading, g->n, sheet_of(g, at), g->n * g->n, (size_t)g->asked[at], answer, g->n, &allowance,
+                        &row, &column);
+}
+#endif
+
+#ifdef OTHER_MOVE
+size_t other_move(size_t reading, size_t n, const double *sheet, size_t sheet_len, int64_t k, double *area,
+                  size_t area_len, size_t *row, size_t *column);
+
+static size_t other_moved(const struct group *g, size_t at, double *answer)
+{
+    size_t row, column, places = g->n * g->n;
+    return other_move(g->reading, g->n, sheet_of(g, at), places, g->asked[at], answer, places, &row, &column);
 }
 #endif
 
@@ -97,10 +115,17 @@ STEPS(plain_native)
     int column_##suffix(size_t n, const double *sheet, size_t column, double *answer);       \
     static size_t one_##suffix(const struct group *g, size_t at, double *answer)             \
     {                                                                                        \
-        return column_##suffix(g->n, sheet_of(g, at), g->stages[at] - 1, answer) ? 0 : 10;   \
+        return column_##suffix(g->n, sheet_of(g, at), (size_t)g->asked[at] - 1, answer) ? 0 : 10; \
     }
 COLUMN_STEPS(plain_O3)
 COLUMN_STEPS(checked_O3)
+
+int move_plain_O3(size_t n, const double *sheet, int k, double *answer);
+
+static size_t moved_plain_O3(const struct group *g, size_t at, double *answer)
+{
+    return move_plain_O3(g->n, sheet_of(g, at), (int)g->asked[at], answer) ? 0 : 16;
+}
 
 #ifdef LAPACK
 void dgetrf_(const int *m, const int *n, double *a, const int *lda, int *pivots, int *info);
@@ -144,15 +169,20 @@ static const struct candidate candidates[] = {
 #endif
     {"C -O3, one column", one_plain_O3, COLUMNS, 1},
     {"checked C -O3, one column", one_checked_O3, COLUMNS, 1},
+    {"yulanbowls, moving", proved_move, MOVES, 0},
+#ifdef OTHER_MOVE
+    {"other library, moving", other_moved, MOVES, 0},
+#endif
+    {"C -O3, moving", moved_plain_O3, MOVES, 0},
 };
 #define CANDIDATES (sizeof candidates / sizeof candidates[0])
 _Static_assert(CANDIDATES <= MOST_CANDIDATES, "room for every candidate");
 
 static int takes_part(const struct group *g, size_t c)
 {
-    if (g->stages[0] != 0)
-        return candidates[c].part == COLUMNS;
-    return candidates[c].part == TABLES || (candidates[c].part == TABLES_OF_RATES && g->reading == 1);
+    if (candidates[c].part == TABLES_OF_RATES)
+        return g->about == TABLES && g->reading == 1;
+    return g->about == candidates[c].part;
 }
 
 /* Nanoseconds of so many calls, the sheets in turn. The round moves the stack, so that a row's best time
@@ -276,11 +306,12 @@ static int read_group(struct group *g)
     read_words(&g->n, 1);
     read_words(&g->sheets, 1);
     read_words(&g->batches, 1);
+    read_words(&g->about, 1);
     if (g->n < 1 || g->n > LIMIT || g->sheets < 1) {
         fprintf(stderr, "time: a group of %zu stages and %zu sheets\n", (size_t)g->n, (size_t)g->sheets);
         exit(2);
     }
-    g->stages = read_many(g->sheets);
+    g->asked = read_many(g->sheets);
     g->numbers = read_many(g->sheets * g->n * g->n);
     g->matrices = read_many(g->sheets * g->n * g->n);
     return 1;

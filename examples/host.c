@@ -1,6 +1,7 @@
 /*
  * Prints the table of a sheet file by the proved library: host FILE, or host < FILE. With host FILE COPY the
- * sheet that was loaded is saved as COPY too.
+ * sheet that was loaded is saved as COPY too. With host FILE COPY K it is moved to another time unit first, every
+ * number times 2^K: K = -10 makes rates per second rates per tick, at 1,024 ticks a second.
  *
  *   rt staticlib hosts
  *   cc -std=c99 -Wall -Wextra -pedantic -I include examples/host.c target/staticlib/libhosts.a -o target/host
@@ -9,7 +10,9 @@
  * The numbers are printed with 17 digits, which read back as the same numbers. A refusal is printed as its
  * number, row and column, with exit status 1.
  */
+#include <errno.h>
 #include <stdio.h>
+#include <stdlib.h>
 
 #include "yulanbowls.h"
 
@@ -112,8 +115,21 @@ static int save_sheet(size_t reading, size_t n, const double *sheet, const char 
     return 0;
 }
 
-/* One byte more than the longest file is read, so that a longer one is noticed. */
-static int print_file(FILE *from, const char *copy)
+static int save_moved(size_t reading, size_t n, const double *sheet, int64_t k, const char *name)
+{
+    double moved[YULANBOWLS_NUMBERS];
+    struct refusal no;
+
+    no.number = yulanbowls_move(reading, n, sheet, n * n, k, moved, YULANBOWLS_NUMBERS, &no.row, &no.column);
+    if (no.number != 0) {
+        return print_refusal(&no);
+    }
+    return save_sheet(reading, n, moved, name);
+}
+
+/* One byte more than the longest file is read, so that a longer one is noticed. Without a k the copy is the sheet
+ * as it was loaded. */
+static int print_file(FILE *from, const char *copy, const int64_t *k)
 {
     uint8_t bytes[YULANBOWLS_FILE_BYTES + 1];
     double sheet[YULANBOWLS_NUMBERS];
@@ -132,25 +148,36 @@ static int print_file(FILE *from, const char *copy)
         return print_refusal(&no);
     }
     if (copy != NULL) {
-        status = save_sheet(reading, n, sheet, copy);
+        status = k == NULL ? save_sheet(reading, n, sheet, copy) : save_moved(reading, n, sheet, *k, copy);
     }
     return status != 0 ? status : print_sheet(reading, n, sheet);
+}
+
+/* Whether the text is a whole number of 64 bits, and that number. The library judges its range. */
+static int read_power(const char *text, int64_t *k)
+{
+    char *end;
+
+    errno = 0;
+    *k = strtoll(text, &end, 10);
+    return errno == 0 && end != text && *end == '\0';
 }
 
 int main(int count, char **words)
 {
     FILE *from = stdin;
+    int64_t k;
     int status;
 
-    if (count > 3) {
-        fprintf(stderr, "usage: host [FILE [COPY]]\n");
+    if (count > 4 || (count == 4 && !read_power(words[3], &k))) {
+        fprintf(stderr, "usage: host [FILE [COPY [K]]]\n");
         return 2;
     }
     if (count >= 2 && (from = fopen(words[1], "rb")) == NULL) {
         perror(words[1]);
         return 2;
     }
-    status = print_file(from, count == 3 ? words[2] : NULL);
+    status = print_file(from, count >= 3 ? words[2] : NULL, count == 4 ? &k : NULL);
     fclose(from);
     return status;
 }

@@ -1,8 +1,8 @@
 /*
  * Yulanbowls for C and C++ programs: dwell times from a flow sheet. The archive is libhosts.a, which
  * `rt staticlib hosts` builds for x86-64 Linux. What is promised below is proved of the library's code;
- * the exact statements are the `ensures` of crates/hosts/src/lib.rt, crates/hosts/specs/, crates/table_calls/specs/
- * and crates/file_calls/specs/.
+ * the exact statements are the `ensures` of crates/hosts/src/lib.rt, crates/hosts/specs/,
+ * crates/table_calls/specs/, crates/file_calls/specs/ and crates/move_calls/specs/.
  *
  * The sheet
  *   n stages, 1 to 32, and n * n numbers, row by row, so at most 1,024. Off the diagonal, place (i, j)
@@ -42,9 +42,13 @@
  *           1 to 32 stages
  *       13  a record is not the row that is due, of n numbers                     of the row due, 0
  *       14  bytes follow the last row                                             0, 0
+ *       15  k is below -512 or above 512                                          0, 0
+ *       16  the exact product of 2^k and a number that is not zero is larger      0, 0
+ *           in size than the largest finite number, or smaller than 2^-1022
  *
  *   yulanbowls_table can return 1 to 4 and 6 to 10, yulanbowls_entry 1 to 3 and 5 to 10, yulanbowls_column 1
- *   to 10, the two readers of files 4 and 11 to 14, and the two writers 1 to 4.
+ *   to 10, the two readers of files 4 and 11 to 14, the two writers 1 to 4, and yulanbowls_move 1 to 4, 6 to 8,
+ *   15 and 16.
  *
  * What the caller owes, in every call (nothing tests it)
  *   - Each pointer is not null, is aligned for its type, and points to as many numbers or bytes as the
@@ -146,6 +150,23 @@ size_t yulanbowls_save_words(size_t reading, size_t n,
                              const uint64_t *sheet, size_t sheet_length,
                              uint8_t *bytes, size_t bytes_length,
                              size_t *length, size_t *row, size_t *column);
+
+/*
+ * Moves a sheet to another time unit: every number times 2^k, for k from -512 to 512. Accepted: the first n * n
+ * places of `area` hold the results row by row, and later places are unchanged. Each result is exact, and a zero
+ * keeps its sign.
+ *
+ * The numbers of a sheet are rates, so for a clock that ticks 1,024 times a second k is -10: a rate per tick is
+ * the rate per second divided by 1,024. The table of the moved sheet counts ticks, 1,024 to the second.
+ *
+ * 9 and 10 are not looked for: a sheet with a stage that nobody leaves is moved too, and the table may refuse a
+ * moved sheet although it accepts the sheet itself.
+ */
+size_t yulanbowls_move(size_t reading, size_t n,
+                       const double *sheet, size_t sheet_length,
+                       int64_t k,
+                       double *area, size_t area_length,
+                       size_t *row, size_t *column);
 
 /*
  * The text that the dwell program prints for a sheet file: its table or its refusal. The text stands at the

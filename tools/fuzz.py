@@ -28,6 +28,7 @@ import reference
 from reference import LARGEST, SMALLEST_NORMAL, bits_of
 
 HUGE = [2 ** 32, 2 ** 63, 2 ** 64 - 1]
+POWERS_OUT_OF_RANGE = [-513, 513, -1024, 1024, -2 ** 32, 2 ** 32, 2 ** 32 + 10, -2 ** 63, 2 ** 63 - 1]
 
 
 # ==== Sheets ====
@@ -159,9 +160,21 @@ def some_numbers(rng: random.Random, reading: int, n: int, for_column: bool = Fa
 
 
 def some_sheet(rng: random.Random, for_column: bool = False) -> Sheet:
-    """A sheet as a caller may lend it: most are whole, some are damaged or not what the other arguments say."""
+    """A sheet to make seconds of, as a caller may lend it."""
     reading, n = 1 if for_column else rng.choice([1, 2]), some_n(rng)
-    words = [bits_of(x) for x in some_numbers(rng, reading, n, for_column)]
+    return lent(rng, reading, n, some_numbers(rng, reading, n, for_column))
+
+
+def sheet_to_move(rng: random.Random) -> Sheet:
+    """A sheet to move, as a caller may lend it: of rates about any power of two, or one to make seconds of."""
+    reading, n = rng.choice([1, 2]), some_n(rng)
+    make = reference.sheet_to_move if rng.random() < 0.6 else some_numbers
+    return lent(rng, reading, n, make(rng, reading, n))
+
+
+def lent(rng: random.Random, reading: int, n: int, numbers: Sequence[float]) -> Sheet:
+    """A sheet as a caller may lend it: most are whole, some are damaged or not what the other arguments say."""
+    words = [bits_of(x) for x in numbers]
     if rng.random() < 0.2:
         words = damaged(rng, words)
     if rng.random() < 0.03:
@@ -178,6 +191,17 @@ def some_stage(rng: random.Random, n: int) -> int:
     if rng.random() < 0.03:
         return rng.choice([0, n + 1, *HUGE]) % 2 ** 64
     return rng.randint(1, min(max(n, 1), 32))
+
+
+def some_power(rng: random.Random, words: Sequence[int]) -> int:
+    """A k to move a sheet by: mostly in its range, and then often one that brings a number of the sheet to an end of
+    the range of results or one power of two to either side of it; at times out of its range, also by far."""
+    kind = rng.random()
+    if kind < 0.06:
+        return rng.choice(POWERS_OUT_OF_RANGE)
+    if kind < 0.12:
+        return rng.choice([-512, -511, -10, 0, 10, 511, 512])
+    return reference.random_power(rng, [reference.number_of(word) for word in words])
 
 
 def some_room(rng: random.Random, needed: int) -> int:
@@ -297,6 +321,13 @@ def writer(name: str) -> Call:
     return call
 
 
+def call_move(calls: Calls, rng: random.Random) -> Outcome:
+    """A sheet moved to another time unit."""
+    sheet = sheet_to_move(rng)
+    k, room = some_power(rng, sheet.words), some_room(rng, min(sheet.n, 33) ** 2)
+    return Outcome(calls.move(sheet.reading, sheet.n, sheet.words, k, room)[0])
+
+
 def call_report(calls: Calls, rng: random.Random) -> Outcome:
     """A report; the refusal that its text tells."""
     room = TEXT_BYTES + rng.choice([0, 0, 1, 100]) if rng.random() < 0.98 else rng.choice([0, 1, TEXT_BYTES - 1])
@@ -317,6 +348,7 @@ EXPORTS: dict[str, tuple[Call, set[int]]] = {
     "yulanbowls_read_words": (reader("yulanbowls_read_words"), {4, 11, 12, 13, 14}),
     "yulanbowls_save_numbers": (writer("yulanbowls_save_numbers"), {1, 2, 3, 4}),
     "yulanbowls_save_words": (writer("yulanbowls_save_words"), {1, 2, 3, 4}),
+    "yulanbowls_move": (call_move, {1, 2, 3, 4, 6, 7, 8, 15, 16}),
     "yulanbowls_report": (call_report, {6, 7, 8, 9, 10, 11, 12, 13, 14}),
 }
 

@@ -21,7 +21,7 @@ from typing import Optional, Sequence, Union
 sys.dont_write_bytecode = True
 sys.path.insert(0, str(Path(__file__).resolve().parent))
 import reference  # noqa: E402
-from reference import Column, Loaded, Refused, Saved, Seconds, Table, bits_of, number_of  # noqa: E402
+from reference import Column, Loaded, Moved, Refused, Saved, Seconds, Table, bits_of, number_of  # noqa: E402
 
 ROOT = Path(__file__).resolve().parent.parent
 HEADER = ROOT / "include" / "yulanbowls.h"
@@ -239,6 +239,18 @@ class Calls:
         data = answer.data if isinstance(answer, Saved) else b""
         self.handed(length, len(data) if isinstance(answer, Saved) else None, "length")
         self.same(area.after(), data + area.content[len(data):], "bytes")
+        self.same(sheet.after(), sheet.content, "sheet")
+        return self.refusal(number, row, column, answer)
+
+    def move(self, reading: int, n: int, words: Sequence[int], k: int, room: int) -> Told:
+        """A sheet moved by 2^k, any signed 64-bit k, into a second area of so many places.  Arguments go in as
+        unsigned words, so a negative k as its two's complement."""
+        sheet, area, row, column = Lent(packed(words)), self.area(room), self.place(), self.place()
+        number = self.library.call("yulanbowls_move", reading=reading, n=n, sheet=sheet, k=k % 2 ** 64, area=area,
+                                   row=row, column=column)
+        answer = reference.move(reading, n, [number_of(word) for word in words], k, room)
+        moved = packed([bits_of(x) for x in answer.numbers]) if isinstance(answer, Moved) else b""
+        self.same(area.after(), moved + area.content[len(moved):], "area")
         self.same(sheet.after(), sheet.content, "sheet")
         return self.refusal(number, row, column, answer)
 

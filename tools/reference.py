@@ -24,6 +24,7 @@ LIMIT = 32                      # the most stages of a sheet
 SMALLEST_NORMAL = 2.0 ** -1022  # products and quotients of nonzero numbers stay above it
 LARGEST = sys.float_info.max
 LONGEST_FILE = 8458
+FURTHEST_POWER = 512            # a sheet is moved by 2^k for k from -512 to 512
 LEAVING_RATES, MARGINS = 1, 2
 
 Row = list[float]
@@ -78,6 +79,12 @@ class Loaded:
 class Saved:
     """The file that a sheet is saved as; the call hands over its length."""
     data: bytes
+
+
+@dataclass(frozen=True)
+class Moved:
+    """The numbers of a sheet in another time unit, row by row."""
+    numbers: list[float]
 
 
 def bits_of(number: float) -> int:
@@ -386,10 +393,31 @@ def ask_trapped(reading: int, n: int, sheet: Sequence[float]) -> Optional[Refuse
     return Refused(9, trapped[0] + 1) if trapped else None
 
 
+def ask_places(reading: int, n: int, sheet: Sequence[float]) -> Optional[Refused]:
+    """Questions 6 to 8, each asked of the whole sheet before the next."""
+    return ask_finite(n, sheet) or ask_signs(reading, n, sheet) or ask_normal(n, sheet)
+
+
 def ask_numbers(reading: int, n: int, sheet: Sequence[float]) -> Optional[Refused]:
-    """Questions 6 to 9, each asked of the whole sheet before the next."""
-    return (ask_finite(n, sheet) or ask_signs(reading, n, sheet) or ask_normal(n, sheet)
-            or ask_trapped(reading, n, sheet))
+    """Questions 6 to 9."""
+    return ask_places(reading, n, sheet) or ask_trapped(reading, n, sheet)
+
+
+def ask_power(k: int) -> Optional[Refused]:
+    """Question 15 (02, U4): is k from −512 to 512?"""
+    return None if -FURTHEST_POWER <= k <= FURTHEST_POWER else Refused(15)
+
+
+def times_power(x: float, k: int) -> Fraction:
+    """The exact x·2^k of a finite x, whether or not a float holds it."""
+    return Fraction(x) * Fraction(2) ** k
+
+
+def ask_results(sheet: Sequence[float], k: int) -> Optional[Refused]:
+    """Question 16 (02, U4): is every exact result zero, or in size neither above the largest finite number nor
+    below 2^-1022?"""
+    sizes = [abs(times_power(x, k)) for x in sheet]
+    return None if all(size == 0 or SMALLEST_NORMAL <= size <= LARGEST for size in sizes) else Refused(16)
 
 
 # ==== The services ====
@@ -443,6 +471,22 @@ def column(reading: int, n: int, sheet: Sequence[float], stage: int, area_length
     except OutOfRange:
         return Refused(10)
     return Column(own_places(n, live, entries, 0.0), allowance(reading, n))
+
+
+def move(reading: int, n: int, sheet: Sequence[float], k: int, area_length: int) -> Union[Moved, Refused]:
+    """Every number times 2^k (02, U4): questions 1 to 4, 6, 7 and 8, then 15 and 16, and no other."""
+    refusal = (ask_reading(reading) or ask_size(n) or ask_sheet_length(n, sheet) or ask_area(n * n, area_length)
+               or ask_places(reading, n, sheet) or ask_power(k) or ask_results(sheet, k))
+    return refusal or Moved([moved_number(x, k) for x in sheet])
+
+
+def moved_number(x: float, k: int) -> float:
+    """The float that is x·2^k; a zero keeps its sign."""
+    exact = times_power(x, k)
+    result = x if exact == 0 else float(exact)
+    if Fraction(result) != exact:
+        raise ArithmeticError(f"no float is {x} times 2^{k}")
+    return result
 
 
 # ==== The sheet file and the dwell program (01, "The sheet file") ====
@@ -819,6 +863,29 @@ def any_sheet(rng: random.Random, n: int) -> list[float]:
     return sheet
 
 
+def sheet_to_move(rng: random.Random, reading: int, n: int) -> list[float]:
+    """A sheet that questions 6 to 8 pass, its rates about any power of two that a float holds, near to one another
+    or far apart; stages may be trapped or idle."""
+    middle, spread, zeros = rng.randint(-1022, 1023), rng.choice([0, 0, 3, 100, 1000]), rng.choice([0.0, 0.3, 0.9])
+
+    def number(i: int, j: int) -> float:
+        if rng.random() < zeros and (i != j or reading == LEAVING_RATES):
+            return random_zero(rng)
+        order = min(max(middle + rng.randint(-spread, spread), -1022), 1023)
+        return math.copysign(math.ldexp(random_size(rng, 0), order), 1 if i == j else -1)
+
+    return [number(i, j) for i in range(n) for j in range(n)]
+
+
+def random_power(rng: random.Random, sheet: Sequence[float]) -> int:
+    """A k from −512 to 512: mostly one that brings the least or the largest number of a sheet to an end of the range
+    of results, or one power of two to either side of it."""
+    orders = [math.frexp(x)[1] - 1 for x in sheet if x != 0.0]
+    ends = [-1022 - min(orders), 1023 - max(orders)] if orders else []
+    near = [k for end in ends for k in (end - 1, end, end + 1) if abs(k) <= FURTHEST_POWER]
+    return rng.choice(near) if near and rng.random() < 0.6 else rng.randint(-FURTHEST_POWER, FURTHEST_POWER)
+
+
 def among_idle(rng: random.Random, n: int, sheet: Sequence[float], total: int) -> tuple[list[int], list[float]]:
     """A sheet of n stages among idle ones, so many in all: where its own stages come to stand, in their order,
     and the numbers."""
@@ -882,6 +949,7 @@ def edge_pair(rng: random.Random, reading: int, n: int, sheet: list[float],
 # ==== Self-test.  Expected values come from the papers, from exact fractions or from a calculation by hand. ====
 
 NAN, INF = math.nan, math.inf
+LEAST_INT64, GREATEST_INT64 = -2 ** 63, 2 ** 63 - 1
 P_SHEET = [1.0, -1.0, -1.0, 0.0]
 P_TABLE = [1.0, 1.0, 1.0, 2.0]
 P_PRINTED = """seconds 2 32
@@ -945,6 +1013,14 @@ class Checks:
         self.equal(what, words_of(got.entries if isinstance(got, Column) else got), words_of(expected))
         if isinstance(got, Column):
             self.equal(f"{what}, allowance", got.allowance, 4 * n * n * n)
+
+    def moves(self, what: str, reading: int, n: int, sheet: Sequence[float], k: int,
+              expected: Union[Refused, Sequence[float]]) -> None:
+        """Moving by 2^k, with just enough room and with more, gives these bits or this refusal."""
+        for room in (n * n, n * n + 5):
+            got = move(reading, n, sheet, k, room)
+            self.equal(f"{what}, times 2^{k}", words_of(got.numbers if isinstance(got, Moved) else got),
+                       words_of(expected))
 
 
 def test_document_sheets(check: Checks) -> None:
@@ -1407,6 +1483,126 @@ def expected_among_idle(n: int, sheet: list[float], live: Sequence[int], total: 
     return [alone.entries[live.index(i)] if i in live else 0.0 for i in range(total)]
 
 
+def test_moving_documents(check: Checks) -> None:
+    """Moving (02, U4): the cases of the papers, sheets of document 01, zeros, and sheets that no table takes."""
+    nearly_two = 2 - 2.0 ** -52
+    for what, reading, n, sheet, k, expected in [
+            ("2^-510", 1, 1, [2.0 ** -510], -512, [2.0 ** -1022]),
+            ("2^-511", 1, 1, [2.0 ** -511], -512, Refused(16)),
+            ("a product that rounds to 2^-1022", 1, 1, [nearly_two * 2.0 ** -511], -512, Refused(16)),
+            ("the same of margins", 2, 1, [nearly_two * 2.0 ** -511], -512, Refused(16)),
+            ("P in ticks", 1, 2, P_SHEET, -10, [2.0 ** -10, -2.0 ** -10, -2.0 ** -10, 0.0]),
+            ("P as it is", 1, 2, P_SHEET, 0, P_SHEET),
+            ("H", 2, 2, [3.0, -1.0, -4.0, 1.0], 3, [24.0, -8.0, -32.0, 8.0]),
+            ("I", 2, 2, [2.0, -0.0, -1.0, 4.0], -1, [1.0, -0.0, -0.5, 2.0]),
+            ("a third", 1, 1, [number_of(0x3fd5555555555555)], 2, [number_of(0x3ff5555555555555)]),
+            ("zeros of either sign", 1, 2, [-0.0, 0.0, -0.0, 1.0], 3, [-0.0, 0.0, -0.0, 8.0]),
+            ("only zeros", 1, 2, [0.0, -0.0, 0.0, -0.0], -512, [0.0, -0.0, 0.0, -0.0]),
+            ("only zeros, upward", 1, 2, [-0.0, -0.0, 0.0, 0.0], 512, [-0.0, -0.0, 0.0, 0.0]),
+            ("C, where both stages are trapped", 1, 2, [0.0, -1.0, -1.0, 0.0], 1, [0.0, -2.0, -2.0, 0.0]),
+            ("a way in and none out", 1, 2, [1.0, -1.0, 0.0, -0.0], 9, [512.0, -512.0, 0.0, -0.0]),
+            ("E becomes F", 1, 1, [2.0 ** 1021], 1, [2.0 ** 1022]),
+            ("a table out of range", 1, 2, [1.0, 0.0, 0.0, 2.0 ** 1022], 1, [2.0, 0.0, 0.0, 2.0 ** 1023]),
+            ("margins out of range", 2, 1, [2.0 ** 1022], -500, [2.0 ** 522])]:
+        check.moves(what, reading, n, sheet, k, expected)
+
+
+def test_moving_order(check: Checks) -> None:
+    """Moving: each question before the next, where both are answered no."""
+    tiny, good = 2.0 ** -1074, [2.0, -1.0, -1.0, 2.0]
+    for reading in (0, 3, 2 ** 64 - 1):
+        check.equal("1 before 2, moving", move(reading, 0, [], 600, 0), Refused(1))
+        check.equal("1 of a good sheet, moving", move(reading, 2, good, 1, 4), Refused(1))
+    for reading in (1, 2):
+        for n in (0, 33, 2 ** 32, 2 ** 63, 2 ** 64 - 1):
+            check.equal("2 before 3, moving", move(reading, n, [NAN], 600, 0), Refused(2))
+        check.equal("33 stages, moving", move(reading, 33, [1.0] * 1089, 1, 1089), Refused(2))
+        for length in (0, 1, 3, 5):
+            check.equal("3 before 4, moving", move(reading, 2, [NAN] * length, 600, 0), Refused(3))
+        for room in (0, 2, 3):
+            check.equal("4 before 6, moving", move(reading, 2, [NAN] * 4, 600, room), Refused(4))
+            check.equal("4 of a good sheet", move(reading, 2, good, 1, room), Refused(4))
+        for what, sheet, k, expected in [
+                ("6 before 7", [5.0, 1.0, NAN, 1.0], 600, Refused(6, 2, 1)),
+                ("infinite is 6", [1.0, 0.0, -INF, 1.0], 600, Refused(6, 2, 1)),
+                ("6 alone", [1.0, 0.0, 0.0, INF], -1, Refused(6, 2, 2)),
+                ("7 before 8", [1.0, -tiny, 1.0, 1.0], 600, Refused(7, 2, 1)),
+                ("7 alone", [1.0, 1.0, 0.0, 1.0], 1, Refused(7, 1, 2)),
+                ("8 before 15", [1.0, -tiny, 0.0, 1.0], 600, Refused(8, 1, 2)),
+                ("8 before 16", [1.0, -tiny, 0.0, LARGEST], 1, Refused(8, 1, 2)),
+                ("8 although the result is large enough", [1.0, -tiny, 0.0, 1.0], 512, Refused(8, 1, 2)),
+                ("15 before 16, above", [1.0, 0.0, 0.0, LARGEST], 513, Refused(15)),
+                ("15 before 16, below", [1.0, -SMALLEST_NORMAL, 0.0, 1.0], -513, Refused(15)),
+                ("16 alone", [1.0, 0.0, -LARGEST, 1.0], 1, Refused(16))]:
+            check.moves(what, reading, 2, sheet, k, expected)
+    check.moves("a margin that is zero", 2, 1, [0.0], 600, Refused(7, 1, 1))
+    check.moves("a margin that is minus zero", 2, 2, [1.0, 0.0, 0.0, -0.0], 1, Refused(7, 2, 2))
+
+
+def test_moving_ends(check: Checks) -> None:
+    """Moving: both ends of the range of k, and for every k the last number at either end of the range of results
+    that is moved and the first that is not, on the diagonal and beside it."""
+    for reading in (1, 2):
+        for k in (-FURTHEST_POWER, FURTHEST_POWER):
+            check.moves("an end of the range of k", reading, 1, [1.0], k, [2.0 ** k])
+        for k in (-513, 513, -1023, 1024, -2 ** 32, 2 ** 32, 2 ** 32 + 1, LEAST_INT64, GREATEST_INT64):
+            check.moves("past it", reading, 1, [1.0], k, Refused(15))
+    for k in range(-512, 513):
+        # k lowers or raises the exponent field, which is 1 for 2^-1022 and 2046 for the largest number
+        low, high = bits_of(SMALLEST_NORMAL), bits_of(LARGEST)
+        within = {low + (max(0, -k) << 52): max(low, low + (k << 52)),
+                  high - (max(0, k) << 52): min(high, high + (k << 52))}
+        past = {low + (-k << 52) - 1} if k < 0 else {high - (k << 52) + 1} if k > 0 else set()
+        for reading in (1, 2):
+            for before, after in within.items():
+                check.moves("within", reading, 1, [number_of(before)], k, [number_of(after)])
+            for before in past:
+                check.moves("past an end", reading, 1, [number_of(before)], k, Refused(16))
+                check.moves("past an end, off the diagonal", reading, 2, [1.0, 0.0, -number_of(before), 1.0], k,
+                            Refused(16))
+
+
+def moved_bits(sheet: Sequence[float], k: int) -> Union[Refused, list[int]]:
+    """Question 16 and the results by their bits alone: the exponent field of each nonzero number, plus k, has to be
+    one of a finite number that is at least 2^-1022."""
+    words = [bits_of(x) for x in sheet]
+    fields = [(word >> 52 & 0x7ff) + k for word in words if word & 2 ** 63 - 1]
+    if not all(1 <= field <= 0x7fe for field in fields):
+        return Refused(16)
+    return [word + (k << 52) if word & 2 ** 63 - 1 else word for word in words]
+
+
+def check_moved_again(check: Checks, rng: random.Random, reading: int, n: int, sheet: Sequence[float], k: int,
+                      numbers: Sequence[float]) -> bool:
+    """The numbers of a moved sheet, moved back, have the bits of the sheet.  Moved further they have those of the
+    sheet moved once, by the sum; whether that was tried."""
+    check.moves("and back", reading, n, numbers, -k, sheet)
+    further = random_power(rng, numbers)
+    again = move(reading, n, numbers, further, n * n)
+    if isinstance(again, Refused) or ask_power(k + further):
+        return False
+    check.moves("two moves as one", reading, n, sheet, k + further, again.numbers)
+    return True
+
+
+def test_random_moves(check: Checks, rng: random.Random, long: bool) -> None:
+    """Moving random sheets: the bits and decisions of `moved_bits`, and moves of what was moved."""
+    moved = refused = further = 0
+    for at in range(8000 if long else 1500):
+        reading, n = rng.choice([1, 2]), rng.randint(1, 6) if at % 100 else LIMIT
+        sheet = sheet_to_move(rng, reading, n)
+        k = random_power(rng, sheet)
+        got, expected = move(reading, n, sheet, k, n * n), moved_bits(sheet, k)
+        check.equal(f"{sheet} by 2^{k}", [bits_of(x) for x in got.numbers] if isinstance(got, Moved) else got, expected)
+        if isinstance(got, Moved):
+            moved += 1
+            check.equal("each by ldexp", words_of(got.numbers), words_of([math.ldexp(x, k) for x in sheet]))
+            further += check_moved_again(check, rng, reading, n, sheet, k, got.numbers)
+        else:
+            refused += 1
+    check.true(f"{moved} sheets moved, {further} again, {refused} refused", min(moved, further, refused) > 100)
+
+
 def changed(data: bytes, at: int, form: str, value: int) -> bytes:
     """The bytes with one field changed."""
     field = struct.pack(form, value)
@@ -1655,6 +1851,9 @@ def self_test(long: bool) -> int:
         test_column_range(check)
         test_trapped(check, rng)
         test_idle(check)
+        test_moving_documents(check)
+        test_moving_order(check)
+        test_moving_ends(check)
         test_file(check, rng)
         test_saving(check, rng)
         test_dwell(check)
@@ -1662,6 +1861,7 @@ def self_test(long: bool) -> int:
         test_random_sheets(check, rng, long)
         test_random_columns(check, rng, long)
         test_random_idle(check, rng, long)
+        test_random_moves(check, rng, long)
     except Failed as failure:
         print(f"FAILED after {check.count} checks: {failure}")
         return 1

@@ -588,6 +588,8 @@ REASONS = {
     12: "the file does not begin with the head of a sheet (reading 1 or 2, and 1 to 32 stages)",
     13: "the file has something else where {record} is due (another kind, length or row number)",
     14: "the file goes on after its last row",
+    15: "the power of two to move by is not from -512 to 512",
+    16: "a number that is moved would be larger than the largest binary64 number, or smaller than 2^-1022",
 }
 
 

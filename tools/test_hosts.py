@@ -19,9 +19,10 @@ import unittest
 from pathlib import Path
 from typing import NamedTuple, Optional, Sequence
 
+from fuzz import EXPORTS, POWERS_OUT_OF_RANGE
 from hosts import ARCHIVE, CC, HEADER, PLACES, ROOT, TEXT_BYTES, Calls, Library, Told, declared, must, run
 import reference
-from reference import Refused, bits_of, number_of
+from reference import LARGEST, Moved, Refused, bits_of, number_of
 
 STRICT = ["-Wall", "-Wextra", "-pedantic", "-Werror", "-I", str(ROOT / "include")]
 NAN, INF = float("nan"), float("inf")
@@ -86,6 +87,10 @@ class HostTest(unittest.TestCase):
         answer = self.calls.save("yulanbowls_save_numbers", reading, n, words, room)
         self.assertEqual(self.calls.save("yulanbowls_save_words", reading, n, words, room), answer)
         return answer
+
+    def move(self, reading: int, n: int, sheet: Sequence[float], k: int, room: Optional[int] = None) -> Told:
+        """A sheet moved by 2^k into a second area of so many places (n × n if not said)."""
+        return self.calls.move(reading, n, [bits_of(x) for x in sheet], k, n * n if room is None else room)
 
     def report(self, data: bytes, room: int = TEXT_BYTES) -> bytes:
         """The report on a file in an area of so many bytes."""
@@ -496,6 +501,118 @@ class SaveTest(HostTest):
                 self.assertEqual(self.save(1, n, words, 0), (3, 0, 0))
 
 
+class MoveTest(HostTest):
+    """Moving to another time unit."""
+
+    def test_documents(self) -> None:
+        """The cases of the documents, in both readings: 16 is decided by the exact product, before any rounding."""
+        for reading in (1, 2):
+            self.assertEqual(self.move(reading, 1, [2.0 ** -510], -512), (0, 0, 0))
+            self.assertEqual(self.move(reading, 1, [2.0 ** -511], -512), (16, 0, 0))
+            self.assertEqual(self.move(reading, 1, [(2 - 2.0 ** -52) * 2.0 ** -511], -512), (16, 0, 0))
+            self.assertEqual(self.move(reading, 2, [1.0, -1.0, 0.0, 3.0], -10), (0, 0, 0))
+
+    def test_known_sheets(self) -> None:
+        """Sheets that are refused with 9 or 10, or accepted, by the table are moved; 6 to 8 are refused as there."""
+        for sheet in SHEETS:
+            answer = self.table(*sheet)
+            expected = answer if answer[0] in (6, 7, 8) else (0, 0, 0)
+            self.assertEqual(self.move(*sheet, 0), expected)
+            self.assertEqual(self.move(*sheet, 513), expected if expected[0] else (15, 0, 0))
+            for k in (-512, -10, -1, 1, 10, 512):
+                self.assertIn(self.move(*sheet, k), [expected, expected if expected[0] else (16, 0, 0)])
+
+    def test_zeros(self) -> None:
+        """A zero of either sign is kept, for every number of stages and by the longest moves."""
+        for n in range(1, 33):
+            sheet = [reference.random_zero(self.rng) for _ in range(n * n)]
+            for k in (-512, self.rng.randint(-511, 511), 512):
+                self.assertEqual(self.move(1, n, sheet, k, n * n + 2), (0, 0, 0))
+
+    def test_range_of_k(self) -> None:
+        """k at its ends and past them, also by far, and where its lower half alone would be in range."""
+        for reading in (1, 2):
+            for n in (1, 3, 32):
+                sheet = [1.5 if p % (n + 1) == 0 else -0.75 for p in range(n * n)]
+                for k in (-512, -511, -1, 0, 1, 511, 512):
+                    self.assertEqual(self.move(reading, n, sheet, k), (0, 0, 0))
+                for k in POWERS_OUT_OF_RANGE:
+                    self.assertEqual(self.move(reading, n, sheet, k), (15, 0, 0))
+
+    def test_range_of_results(self) -> None:
+        """For every second k the last number that is moved, at either end of the range, and the first that is not,
+        at any place of a sheet."""
+        low, high = bits_of(SMALLEST), bits_of(LARGEST)
+        for k in range(-512, 513, 2):
+            within, past = (low - (k << 52), -1) if k < 0 else (high - (k << 52), 1)
+            reading, n = self.rng.choice([1, 2]), self.rng.choice([1, 2, 5])
+            place = self.rng.randrange(n * n)
+            for word, expected in ((within, 0), (within + past, 16 if k else 6)):
+                sheet = [1.0 if p % (n + 1) == 0 else reference.random_zero(self.rng) for p in range(n * n)]
+                sheet[place] = number_of(word) if place % (n + 1) == 0 else -number_of(word)
+                self.assertEqual(self.move(reading, n, sheet, k, n * n + 1)[0], expected)
+
+    def test_random_sheets(self) -> None:
+        """Sheets of every size about any power of two, moved, and back again with their bits."""
+        answers = []
+        for n in [*range(1, 33), *[1, 2, 3, 4, 5, 6, 7] * 20]:
+            for reading in (1, 2):
+                sheet = reference.sheet_to_move(self.rng, reading, n)
+                k = reference.random_power(self.rng, sheet)
+                answers.append(self.move(reading, n, sheet, k, n * n + n))
+                moved = reference.move(reading, n, sheet, k, n * n)
+                if isinstance(moved, Moved):
+                    self.assertEqual(self.move(reading, n, moved.numbers, -k), (0, 0, 0))
+        self.assertEqual(set(answers), {(0, 0, 0), (16, 0, 0)})
+        self.assertGreater(min(answers.count((0, 0, 0)), answers.count((16, 0, 0))), 50)
+
+    def test_lengths(self) -> None:
+        """Sheets and areas that are too short, right, too long or empty; later places stay as they are."""
+        for sheet in random_sheets(self.rng, [1, 2, 5, 32], 3):
+            needed = sheet.n * sheet.n
+            for room in (needed, needed + 1, needed + 50, PLACES + 7):
+                self.assertEqual(self.move(*sheet, -10, room), (0, 0, 0))
+            for room in (0, sheet.n - 1, needed - 1):
+                self.assertEqual(self.move(*sheet, -10, room), (4, 0, 0))
+            for numbers in ([], sheet.numbers[:-1], sheet.numbers + [0.0]):
+                self.assertEqual(self.move(sheet.reading, sheet.n, numbers, -10), (3, 0, 0))
+
+    def test_order(self) -> None:
+        """Each question before the next, where both are answered no."""
+        tiny = 2.0 ** -1074
+        for reading in (0, 3, 2 ** 63, 2 ** 64 - 1):
+            self.assertEqual(self.move(reading, 0, [], 600, 0), (1, 0, 0))
+            self.assertEqual(self.move(reading, 1, [1.0], 1), (1, 0, 0))
+        for reading in (1, 2):
+            for n in (0, 33, 2 ** 32, 2 ** 63, 2 ** 64 - 1):
+                self.assertEqual(self.move(reading, n, [NAN], 600, 0), (2, 0, 0))
+                self.assertEqual(self.move(reading, n, [], 1, 5), (2, 0, 0))
+            self.assertEqual(self.move(reading, 33, [1.0] * 1089, 1), (2, 0, 0))
+            self.assertEqual(self.move(reading, 2, [NAN] * 3, 600, 0), (3, 0, 0))
+            self.assertEqual(self.move(reading, 2, [NAN] * 4, 600, 3), (4, 0, 0))
+            for sheet, k, expected in [
+                    ([5.0, 1.0, NAN, 1.0], 600, (6, 2, 1)), ([1.0, -tiny, 1.0, 1.0], 600, (7, 2, 1)),
+                    ([1.0, -tiny, 0.0, 1.0], 600, (8, 1, 2)), ([1.0, -tiny, 0.0, LARGEST], 1, (8, 1, 2)),
+                    ([1.0, 0.0, 0.0, LARGEST], 513, (15, 0, 0)), ([1.0, -SMALLEST, 0.0, 1.0], -513, (15, 0, 0)),
+                    ([1.0, 0.0, -LARGEST, 1.0], 1, (16, 0, 0))]:
+                self.assertEqual(self.move(reading, 2, sheet, k), expected)
+                self.assertEqual(self.move(reading, 2, sheet, k, 9), expected)
+
+    def test_one_bad_number(self) -> None:
+        """A random sheet with one number spoilt, anywhere, by k in its range and out of it."""
+        for sheet in random_sheets(self.rng, [2, 3, 7, 32], 30) * 6:
+            numbers = list(sheet.numbers)
+            numbers[self.rng.randrange(len(numbers))] = self.rng.choice(
+                [NAN, INF, -INF, 1.0, -1.0, 2.0 ** -1074, -2.0 ** -1074, -0.0, LARGEST, -SMALLEST])
+            for k in (-512, -1, 1, 512, 513):
+                self.move(sheet.reading, sheet.n, numbers, k)
+
+    def test_bits_of_nan(self) -> None:
+        """NaN patterns of every kind are 6."""
+        for word in (0x7ff0000000000001, 0x7ff8000000000000, 0xffffffffffffffff, 0xfff0000000000001):
+            self.assertEqual(self.move(1, 1, [number_of(word)], 1), (6, 1, 1))
+
+
 class ReportTest(HostTest):
     """The text that dwell prints."""
 
@@ -535,6 +652,7 @@ class ThreadTest(HostTest):
                     self.table(*mine)
                     self.column(*mine, mine.n)
                     self.file(file_of(mine))
+                    self.move(*mine, -10)
             except Exception as failure:
                 failures.append(failure)
 
@@ -568,6 +686,22 @@ class LinkTest(HostTest):
         self.assertEqual({name: int(value) for name, value in constants.items()},
                          {"STAGES": reference.LIMIT, "NUMBERS": reference.LIMIT ** 2,
                           "FILE_BYTES": reference.LONGEST_FILE, "TEXT_BYTES": TEXT_BYTES})
+
+    def test_refusals(self) -> None:
+        """The header lists every number that a call can be refused with, and says of each call which; fuzz.py looks
+        for just these.  Of the report, which returns a length, it says nothing."""
+        text = re.sub(r"^ \* *", "", HEADER.read_text(), flags=re.MULTILINE)
+        listed = [int(number) for number in re.findall(r"^(\d+)  [a-z]", text, re.MULTILINE)]
+        self.assertEqual(listed, list(range(1, len(listed) + 1)))
+        self.assertEqual(set(listed), set().union(*(refusals for _, refusals in EXPORTS.values())))
+        said = re.search(r"^yulanbowls_table can return [^.]*", text, re.MULTILINE)[0].replace("\n", " ")
+        calls = re.findall(r"(yulanbowls_\w+|the two \w+)[a-z ]* (\d+(?:(?: to | and |, )\d+)*)", said)
+        both = {"the two readers": "yulanbowls_read_", "the two writers": "yulanbowls_save_"}
+        returned = {name: {number for first, last in re.findall(r"(\d+)(?: to (\d+))?", numbers)
+                           for number in range(int(first), int(last or first) + 1)}
+                    for who, numbers in calls for name in declared() if name.startswith(both.get(who, who))}
+        self.assertEqual(returned, {name: refusals for name, (_, refusals) in EXPORTS.items()
+                                    if name != "yulanbowls_report"})
 
     def test_cxx(self) -> None:
         """The header serves C++ too."""
@@ -622,14 +756,42 @@ class LinkTest(HostTest):
             self.assertEqual(copy.read_bytes(), reference.make_file_words(loaded.reading, loaded.n,
                                                                           [reference.word_of(x) for x in loaded.numbers]))
 
+    def test_example_moves(self) -> None:
+        """With a K the example saves the sheet moved by 2^K; a sheet that is not moved is not saved either."""
+        host = self.build(str(ROOT / "examples" / "host.c"), CC, "-std=c99")
+        sheet, copy = Path(Built.folder.name) / "line.sheet", Path(Built.folder.name) / "copy.sheet"
+        powers = [-10, 512, 0, -512, 513, -2 ** 63, 3, 2 ** 63 - 1]
+        answers = set()
+        for at, data in enumerate(good_files(self.rng)):
+            loaded, k = reference.load(data, PLACES), powers[at % len(powers)]
+            moved = reference.move(loaded.reading, loaded.n, loaded.numbers, k, PLACES)
+            sheet.write_bytes(data)
+            copy.unlink(missing_ok=True)
+            done = run(host, str(sheet), str(copy), str(k))
+            if isinstance(moved, Moved):
+                self.assertEqual((done.returncode, done.stdout.decode()), self.printed(data))
+                self.assertEqual(copy.read_bytes(), reference.make_file(loaded.reading, loaded.n, moved.numbers))
+                answers.add(0)
+            else:
+                self.assertEqual((done.returncode, done.stdout.decode()), (1, reference.refused_line(moved)))
+                self.assertFalse(copy.exists())
+                answers.add(moved.number)
+        self.assertGreaterEqual(answers, {0, 6, 7, 15, 16})
+
     def test_example_misused(self) -> None:
-        """The example tells a file that is not there, and too many words."""
+        """The example tells a file that is not there, too many words, and a K that is no whole number of 64 bits."""
         host = self.build(str(ROOT / "examples" / "host.c"), CC, "-std=c99")
         self.assertEqual(run(host, "no/such/file").returncode, 2)
-        self.assertEqual(run(host, "a", "b", "c").stdout, b"usage: host [FILE [COPY]]\n")
         sheet = Path(Built.folder.name) / "line.sheet"
         sheet.write_bytes(file_of(SHEETS[0]))
-        self.assertEqual(run(host, str(sheet), "no/such/folder/copy").returncode, 2)
+        copy = Path(Built.folder.name) / "never.sheet"
+        usage = b"usage: host [FILE [COPY [K]]]\n"
+        for words in (["1", "d"], [""], ["x"], ["1.5"], ["7x"], ["-"], [str(2 ** 63)], [str(-2 ** 63 - 1)]):
+            done = run(host, str(sheet), str(copy), *words)
+            self.assertEqual((done.returncode, done.stdout), (2, usage), words)
+        self.assertFalse(copy.exists())
+        for words in ([], ["-10"]):
+            self.assertEqual(run(host, str(sheet), "no/such/folder/copy", *words).returncode, 2)
 
 
 def main() -> int:

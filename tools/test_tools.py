@@ -830,7 +830,7 @@ class Refusals(ToolTest):
     WORDS = {1: "reading is neither 1", 2: "not from 1 to 32", 3: "n × n numbers", 4: "room lent", 5: "asked for",
              6: "not a finite number", 7: "wrong sign", 8: "too small", 9: "never gets out", 10: "range of binary64",
              11: "the file ends before", 12: "does not begin with the head", 13: "something else where",
-             14: "goes on after"}
+             14: "goes on after", 15: "power of two to move by", 16: "a number that is moved"}
 
     def said(self, printed: bytes) -> str:
         """What table says of a refusal, with names."""
@@ -838,7 +838,7 @@ class Refusals(ToolTest):
         return self.bad("table", "--names", "names.txt", stdin=printed)
 
     def test_every_number(self) -> None:
-        """Each number from 1 to 14 in one sentence, with the place and the stages' names where it has them."""
+        """Each number from 1 to 16 in one sentence, with the place and the stages' names where it has them."""
         for refusal, words in self.WORDS.items():
             row = 2 if refusal in (6, 7, 8, 9, 11, 13) else 0
             column = 3 if refusal in (6, 7, 8) else 0

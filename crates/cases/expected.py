@@ -13,6 +13,8 @@ One column: its questions in order, every column of document 01's sheets of read
 n from 1 to 32, among them many whose table is out of range while the column is not.
 Idle stages: first, between others, last, many and alone, with zeros of either sign; stages that are nearly idle; the
 entries and columns of an idle stage, and those beside it.
+Moving to another time unit: the questions in order, both ends of the range of k and of the results, zeros of either
+sign, sheets that no table takes, 32 stages, random sheets by the last k that moves them and the first that does not.
 Before an accepted table or column is written it is compared with the exact inverse by the accuracy rule.
 """
 from __future__ import annotations
@@ -27,10 +29,11 @@ from typing import Iterator, NamedTuple, Union
 sys.path.insert(0, str(Path(__file__).resolve().parents[2] / "tools"))
 sys.dont_write_bytecode = True
 
-from reference import (INF, LARGEST, LIMIT, NAN, P_SHEET, SHEET_ROW, Column, Loaded, Refused, Saved,  # noqa: E402
-                       Style, Table, accuracy, among_idle, bits_of, column, column_accuracy, dwell, edge_pair, entry,
-                       load, make_file, make_file_words, number_of, random_sheet, random_style, range_facts, record,
-                       save, sheet_parts, table, table_of_stream, uneven_sheet, word_of)
+from reference import (GREATEST_INT64, INF, LARGEST, LEAST_INT64, LIMIT, NAN, P_SHEET, SHEET_ROW, Column,  # noqa: E402
+                       Loaded, Moved, Refused, Saved, Style, Table, accuracy, among_idle, bits_of, column,
+                       column_accuracy, dwell, edge_pair, entry, load, make_file, make_file_words, move, number_of,
+                       random_sheet, random_style, range_facts, record, save, sheet_parts, sheet_to_move, table,
+                       table_of_stream, uneven_sheet, word_of)
 
 Sheet = tuple[int, int, list[float]]  # reading, n, numbers
 
@@ -464,6 +467,69 @@ def idle_stages(rng: random.Random) -> Iterator[Case]:
         yield column_case(1, n, sheet, stage, n + 1)
 
 
+# ==== Moving ====
+
+NEARLY_TWO = 2 - 2.0 ** -52
+
+# A sheet, and the k that it is moved by.
+MOVES: list[tuple[Sheet, int]] = [
+    # 16 is decided by the exact product: the third rounds to 2^-1022
+    ((1, 1, [2.0 ** -510]), -512), ((1, 1, [2.0 ** -511]), -512), ((1, 1, [NEARLY_TWO * 2.0 ** -511]), -512),
+    ((1, 2, P_SHEET), -10), ((2, 2, [3.0, -1.0, -4.0, 1.0]), 3), ((2, 2, [2.0, -0.0, -1.0, 4.0]), -1),
+    ((1, 2, [-0.0, 0.0, -0.0, 1.0]), 3), ((1, 2, [0.0, -0.0, 0.0, -0.0]), -512),
+    # 9 and 10 are not asked
+    ((1, 2, [0.0, -1.0, -1.0, 0.0]), 1), ((1, 1, [2.0 ** 1022]), 1), ((2, 1, [2.0 ** 1022]), -512),
+    # both ends of the range of results, at either end of the range of k and at 0
+    ((1, 1, [2.0 ** 511]), 512), ((1, 1, [2.0 ** 512]), 512), ((2, 1, [NEARLY_TWO * 2.0 ** 511]), 512),
+    ((1, 2, [SMALLEST, -LARGEST, -SMALLEST, LARGEST]), 0), ((1, 2, [1.0, -LARGEST, 0.0, 1.0]), 1),
+    ((2, 2, [1.0, 0.0, -SMALLEST, 1.0]), -1), ((2, 2, [1.0, -LARGEST, -SMALLEST, 1.0]), -1),
+    # past the range of k
+    ((1, 1, [1.0]), 513), ((2, 1, [1.0]), -513), ((1, 1, [1.0]), 2 ** 32), ((1, 1, [1.0]), LEAST_INT64),
+    ((2, 1, [1.0]), GREATEST_INT64),
+    # each question before the next
+    ((1, 2, [5.0, 1.0, NAN, 1.0]), 600), ((2, 2, [1.0, -2.0 ** -1074, 1.0, 1.0]), 600),
+    ((1, 2, [1.0, -2.0 ** -1074, 0.0, 1.0]), 600), ((1, 2, [1.0, 0.0, 0.0, LARGEST]), 513), ((2, 1, [-0.0]), 1)]
+
+
+def move_case(reading: int, n: int, sheet: list[float], k: int, room: int) -> Case:
+    answer = move(reading, n, sheet, k, room)
+    area = [AREA_NUMBER] * room
+    if isinstance(answer, Moved):
+        area[:n * n] = answer.numbers
+    return Case(packed("m", [reading, n, room, k % 2 ** 64, *(bits_of(x) for x in sheet)]),
+                line(answer, [], [bits_of(x) for x in area]))
+
+
+def move_edges(rng: random.Random, count: int) -> Iterator[tuple[Sheet, int]]:
+    """So many random sheets, every second one upward, each with the last k that moves it and the first that does
+    not."""
+    for at in range(count):
+        while True:
+            reading, n, step = rng.choice([1, 2]), rng.randint(1, 6), 1 if at % 2 else -1
+            sheet = sheet_to_move(rng, reading, n)
+            moved = [isinstance(move(reading, n, sheet, step * size, n * n), Moved) for size in range(513)]
+            if not all(moved):
+                break
+        first = moved.index(False)
+        yield (reading, n, sheet), step * (first - 1)
+        yield (reading, n, sheet), step * first
+
+
+def moves(rng: random.Random) -> Iterator[Case]:
+    """Questions 1 to 4 in order; the sheets above; 32 stages, once with a last number that cannot be moved so far;
+    random sheets by the last k that moves them and the first that does not."""
+    for reading, n, sheet, room in [(0, 0, [NAN], 0), (3, 1, [1.0], 1), (1, 33, [1.0] * 1089, 5),
+                                    (2, 2 ** 63, [NAN], 0), (1, 2, [NAN] * 3, 0), (2, 2, [NAN] * 4, 3)]:
+        yield move_case(reading, n, sheet, 600, room)
+    for at, ((reading, n, sheet), k) in enumerate(MOVES):
+        yield move_case(reading, n, sheet, k, n * n + at % 3)
+    sheet = random_sheet(rng, 1, LIMIT, STYLES[0])
+    yield move_case(1, LIMIT, sheet, -10, 1030)
+    yield move_case(1, LIMIT, sheet[:-1] + [LARGEST], 10, 1024)
+    for (reading, n, sheet), k in move_edges(rng, 4):
+        yield move_case(reading, n, sheet, k, n * n + 1)
+
+
 # ==== Files ====
 
 def changed(data: bytes, at: int, new: bytes) -> bytes:
@@ -486,7 +552,7 @@ def cases() -> list[Case]:
     one_nan = make_file_words(2, 1, [0xFFF4000012345678])
     return [*(dwell_case(data) for data in inputs()), *calls(), *damaged(make_file(1, 2, P_SHEET), 2, 5),
             *damaged(one_nan, 1, 5), *saves(random.Random(20260202)), *columns(random.Random(20260303)),
-            *idle_stages(random.Random(20260404))]
+            *idle_stages(random.Random(20260404)), *moves(random.Random(20260505))]
 
 
 def main(arguments: list[str]) -> int:

@@ -9,6 +9,8 @@ use Rattle.answers.specs.declared.Entry.{Entry}
 use Rattle.answers.specs.declared.Entry.the-variants as entry
 use Rattle.answers.specs.declared.Loaded.{Loaded}
 use Rattle.answers.specs.declared.Loaded.the-variants as loaded
+use Rattle.answers.specs.declared.Moved.{Moved}
+use Rattle.answers.specs.declared.Moved.the-variants as moved
 use Rattle.answers.specs.declared.Saved.{Saved}
 use Rattle.answers.specs.declared.Saved.the-variants as saved
 
@@ -27,3 +29,7 @@ headGiven (loaded.Refused number row column) = refused number row column
 abbrev pub savedGiven : Saved → Answer ℕ
 savedGiven (saved.File length) = given length
 savedGiven (saved.Refused number row column) = refused number row column
+
+abbrev pub movedGiven : Moved → Answer (Unit {0})
+movedGiven moved.Sheet = given tt
+movedGiven (moved.Refused number row column) = refused number row column

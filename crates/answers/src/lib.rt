@@ -46,6 +46,16 @@ pub enum Loaded {
     },
 }
 
+// Moving to another time unit: the moved numbers fill the area, and nothing else is handed over.
+pub enum Moved {
+    Sheet,
+    Refused {
+        number: usize,
+        row: usize,
+        column: usize,
+    },
+}
+
 // Saving: the length of the file.
 pub enum Saved {
     File {

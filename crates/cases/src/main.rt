@@ -321,6 +321,37 @@ fn run_save_numbers(case: &[u8]) {
     );
 }
 
+// The signed number whose two's complement a word is.
+fn signed(word: u64) -> i64 {
+    if word < 0x8000_0000_0000_0000 {
+        return word as i64;
+    }
+    -1 - ((u64::MAX - word) as i64)
+}
+
+// m: reading, n, the length of the second area, k, and the sheet's numbers.
+fn try_move(reading: usize, n: usize, sheet: &[f64], k: i64, area: &mut [f64]) {
+    let mut row = 0;
+    let mut column = 0;
+    let number = move_calls::move_sheet(reading, n, sheet, k, area, &mut row, &mut column);
+    write_refusal(number, row, column);
+    write_numbers(area);
+}
+
+fn run_move(case: &[u8]) {
+    let mut sheet = [0.0; PLACES];
+    let given = numbers(case, 4, &mut sheet);
+    let mut area = [0.5; PLACES];
+    let room = least(count(case, 2), PLACES);
+    try_move(
+        count(case, 0),
+        count(case, 1),
+        &sheet[..given],
+        signed(word(case, 3)),
+        &mut area[..room],
+    );
+}
+
 // d: the input of dwell.
 fn run_dwell(case: &[u8]) {
     let from = least(1, case.len());
@@ -342,6 +373,7 @@ fn run_case(case: &[u8]) {
         b'f' => run_file(case),
         b's' => run_save(case),
         b'n' => run_save_numbers(case),
+        b'm' => run_move(case),
         _ => run_dwell(case),
     }
 }

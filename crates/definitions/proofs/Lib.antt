@@ -3,3 +3,4 @@ pub mod Starred
 pub mod ExactExamples
 pub mod FileExamples
 pub mod ColumnExamples
+pub mod MovingExamples

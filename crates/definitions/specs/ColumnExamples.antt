@@ -46,10 +46,10 @@ line reading n sheet stage area expected =
 abbrev three : List Float
 three = num 7 ∷ num 8 ∷ num 9 ∷ []
 
-abbrev one : List Float
+abbrev pub one : List Float
 one = num 7 ∷ []
 
-abbrev P : List Float
+abbrev pub P : List Float
 P = num 1 ∷ minus (num 1) ∷ minus (num 1) ∷ num 0 ∷ []
 
 -- One column in range, the table not: 1 / 2^1022 is a step of the second column alone.
@@ -59,7 +59,7 @@ edge = num 1 ∷ num 0 ∷ num 0 ∷ num (2 ^ 1022) ∷ []
 abbrev tiny : Float
 tiny = quo 1 (2 ^ 600)
 
-abbrev most : Float
+abbrev pub most : Float
 most = num (2 ^ 1024 - 2 ^ 971)
 
 unfoldable pub columns : List Line

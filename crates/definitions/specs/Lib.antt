@@ -13,8 +13,10 @@ pub mod Accuracy
 pub mod Column
 pub mod File
 pub mod Saving
+pub mod Moving
 pub mod Dwell
 pub mod Starred
 pub mod ExactExamples
 pub mod FileExamples
 pub mod ColumnExamples
+pub mod MovingExamples

@@ -21,7 +21,7 @@ x ⊗ y = mul binary64 x y
 abbrev pub _⊘_ : Float → Float → Float
 x ⊘ y = div binary64 x y
 
--- Plus zero, one, and 2^-1022.
+-- Plus zero, one, 2^-1022, and the largest finite number, 2^1024 − 2^971.
 abbrev pub 0·0 : Float
 0·0 = fin false 0 (pos 0)
 
@@ -30,6 +30,9 @@ abbrev pub 1·0 : Float
 
 abbrev pub smallest : Float
 smallest = fin false 1 (negsuc 1021)
+
+abbrev pub largest : Float
+largest = fin false 9007199254740991 (pos 971)
 
 unfoldable pub finite : Float → Bool
 finite nan = false

@@ -5,6 +5,7 @@
 ghost use Rattle.definitions.specs.File.{fileNumberArea, fileWordArea};
 ghost use Rattle.definitions.specs.Saving.{savedNumbers, savedWords};
 ghost use Rattle.file_calls.specs.FileCalls.{FileCall, SaveCall};
+ghost use Rattle.move_calls.specs.MoveCalls.{MoveCall};
 ghost use Rattle.table_calls.specs.TableCalls.{TableCall, ColumnCall, EntryCall};
 ghost use Rattle.hosts.specs.HostCalls.{ReportCall};
 
@@ -118,6 +119,22 @@ pub extern "C" fn yulanbowls_save_words(
     ensures { λ r. ⌜ SaveCall savedWords reading n (now (sheet .entry)) (now (bytes .entry)) (now (bytes .exit)) (now (length .entry)) (now (length .exit)) (now (row .exit)) (now (column .exit)) r ⌝ }
 {
     file_calls::save_words(reading, n, sheet, bytes, length, row, column)
+}
+
+// The sheet times 2^k, in the first n × n places of the area.
+#[no_mangle]
+pub extern "C" fn yulanbowls_move(
+    reading: usize,
+    n: usize,
+    sheet: &[f64],
+    k: i64,
+    area: &mut [f64],
+    row: &mut usize,
+    column: &mut usize,
+) -> usize
+    ensures { λ r. ⌜ MoveCall reading n (now (sheet .entry)) k (now (area .entry)) (now (area .exit)) (now (row .exit)) (now (column .exit)) r ⌝ }
+{
+    move_calls::move_sheet(reading, n, sheet, k, area, row, column)
 }
 
 // The text that dwell prints for a sheet file, at the start of the area; returns its length. An area

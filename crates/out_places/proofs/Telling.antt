@@ -6,11 +6,11 @@ use Rattle.definitions.specs.Services.{Answer, given, refused}
 use Rattle.out_places.specs.OutPlaces.{numberOf, rowOf, columnOf, handed, Refusal, ValueHanded, HeadHanded}
 
 module _ {A : Type 0} {a : Answer A} where
-  none-given : {value : A} → a ≡ given value → Refusal a 0 0 0
+  pub none-given : {value : A} → a ≡ given value → Refusal a 0 0 0
   unfolding numberOf rowOf columnOf
   none-given e = record { number = rw e; row = rw e; column = rw e }
 
-  refusal-given : {number row column : ℕ} → a ≡ refused number row column → Refusal a number row column
+  pub refusal-given : {number row column : ℕ} → a ≡ refused number row column → Refusal a number row column
   unfolding numberOf rowOf columnOf
   refusal-given e = record { number = rw e; row = rw e; column = rw e }
 

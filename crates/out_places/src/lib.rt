@@ -1,11 +1,12 @@
 // What a service answers, in the out places of a caller in C, who has no enums: the number of the refusal is
 // returned, or 0, and `row` and `column` tell the rest of it, 0 and 0 where there is none. What the call hands
 // over goes to the other places, which a refused call leaves as they were.
-ghost use Rattle.answers.specs.Answers.{filledGiven, entryGiven, headGiven, savedGiven};
-ghost use Rattle.out_places.specs.OutPlaces.{ValueHanded, HeadHanded};
+ghost use Rattle.answers.specs.Answers.{filledGiven, entryGiven, headGiven, savedGiven, movedGiven};
+ghost use Rattle.out_places.specs.OutPlaces.{Refusal, ValueHanded, HeadHanded};
 use answers::Entry;
 use answers::Filled;
 use answers::Loaded;
+use answers::Moved;
 use answers::Saved;
 
 pub fn hand_allowance(
@@ -106,6 +107,28 @@ pub fn hand_head(
         } => {
             *row = due;
             *column = j;
+            number
+        }
+    }
+}
+
+// Nothing but whether the call is accepted.
+pub fn hand_moved(told: Moved, row: &mut usize, column: &mut usize) -> usize
+    ensures { λ r. ⌜ Refusal (movedGiven told) r (now (row .exit)) (now (column .exit)) ⌝ }
+{
+    match told {
+        Moved::Sheet => {
+            *row = 0;
+            *column = 0;
+            0
+        }
+        Moved::Refused {
+            number,
+            row: at_row,
+            column: at_column,
+        } => {
+            *row = at_row;
+            *column = at_column;
             number
         }
     }

@@ -11,10 +11,10 @@ use lib.Ieee.{Float, nan, inf, fin, binary64, up, down, below, level, eq, lt, le
 use lib.Ieee.Fits.{down-pos, and-l, and-r}
 use borrow.Author.Tests.{eq-eqb, ne-eqb}
 use Rattle.exact.proofs.Bools.{or-l, or-r, or-cases}
-use Rattle.definitions.specs.Numbers.{0·0, smallest, finite, isZero}
+use Rattle.definitions.specs.Numbers.{0·0, smallest, largest, finite, isZero}
 use Rattle.definitions.specs.Questions.{largeEnough}
 use Rattle.rounding.proofs.Finite.{zero-finite}
-use Rattle.rounding.proofs.Words.{zero-word, smallest-word}
+use Rattle.rounding.proofs.Words.{zero-word, smallest-word, largest-word}
 use Rattle.places.specs.PlaceQuestions.{signAt, passes}
 use Rattle.quick.specs.QuickPass.{PassesOn, PassesOff}
 
@@ -30,10 +30,6 @@ passes-all reading i j x f s l question =
     let large = largeEnough x in
     either (eqb question 6) (finite x) (cond (eqb question 7) sign large) f (either (eqb question 7) sign large s l)
 
--- The largest number below infinity, by the literal of the program.
-abbrev largest : Float
-largest = ofBits binary64 9218868437227405311
-
 zero-large : (x : Float) → T (isZero x) → T (largeEnough x)
 unfolding largeEnough
 zero-large x t = or-l (isZero x || le smallest x) (le x (neg smallest)) (or-l (isZero x) (le smallest x) t)
@@ -48,7 +44,7 @@ unfolding isZero le
 zero-size x t = off-diagonal x (zero-finite x t) (or-r (lt x 0·0) (eq x 0·0) t) (zero-large x t)
 
 negative-finite : (x : Float) → T (le (neg largest) x) → T (le x (neg smallest)) → T (finite x)
-unfolding ofBits neg le lt eq finite
+unfolding neg le lt eq finite
 negative-finite nan l h = l
 negative-finite (inf true) l h = l
 negative-finite (inf false) l h = h
@@ -81,7 +77,7 @@ large-size x l h = off-diagonal x (negative-finite x l h) (below-zero x h) (or-r
 
 -- The test by the literals of the program.
 pub size-passes : (x : Float)
-    → T (eq x (ofBits binary64 0) || (le (neg largest) x && le x (neg (ofBits binary64 4503599627370496)))) → PassesOff x
+    → T (eq x (ofBits binary64 0) || (le (neg (ofBits binary64 9218868437227405311)) x && le x (neg (ofBits binary64 4503599627370496)))) → PassesOff x
 unfolding isZero
 size-passes x t =
     let low = le (neg largest) x in
@@ -89,7 +85,7 @@ size-passes x t =
     ⊎-elim
     (λ z. zero-size x z)
     (λ b. large-size x (and-l low high b) (and-r low high b))
-    (or-cases (isZero x) (low && high) (rw (zero-word, smallest-word) at t))
+    (or-cases (isZero x) (low && high) (rw (zero-word, smallest-word, largest-word) at t))
 
 -- ---- a number on the diagonal
 on-diagonal : (reading : ℕ) (x : Float) → T (finite x) → T (cond (eqb reading 1) (le 0·0 x) (lt 0·0 x)) → T (largeEnough x) → PassesOn reading x
@@ -113,7 +109,7 @@ zero-parameter : (x : Float) → T (isZero x) → PassesOn 1 x
 zero-parameter x t = on-diagonal 1 x (zero-finite x t) (zero-reached x t) (zero-large x t)
 
 positive-finite : (x : Float) → T (le smallest x) → T (le x largest) → T (finite x)
-unfolding ofBits le lt eq finite
+unfolding le lt eq finite
 positive-finite nan l h = l
 positive-finite (inf true) l h = l
 positive-finite (inf false) l h = h
@@ -152,7 +148,7 @@ large-parameter reading x l h =
     (or-l (isZero x || le smallest x) (le x (neg smallest)) (or-r (isZero x) (le smallest x) l))
 
 pub parameter-passes : (reading : ℕ) (x : Float)
-    → T ((eq x (ofBits binary64 0) && eqb reading 1) || (le (ofBits binary64 4503599627370496) x && le x largest)) → PassesOn reading x
+    → T ((eq x (ofBits binary64 0) && eqb reading 1) || (le (ofBits binary64 4503599627370496) x && le x (ofBits binary64 9218868437227405311))) → PassesOn reading x
 unfolding isZero
 parameter-passes reading x t =
     let low = le smallest x in
@@ -160,4 +156,4 @@ parameter-passes reading x t =
     ⊎-elim
     (λ z. subst (λ r. PassesOn r x) (sym (eqb→eq reading 1 (and-r (isZero x) (eqb reading 1) z))) (zero-parameter x (and-l (isZero x) (eqb reading 1) z)))
     (λ b. large-parameter reading x (and-l low high b) (and-r low high b))
-    (or-cases (isZero x && eqb reading 1) (low && high) (rw (zero-word, smallest-word) at t))
+    (or-cases (isZero x && eqb reading 1) (low && high) (rw (zero-word, smallest-word, largest-word) at t))

@@ -62,7 +62,7 @@ multiplier-good (fin false n e) lo f t g a = record { plus = tt; held = f }
 
 -- ---- a dividend that is zero
 module _ (s : Bool) (n : ℕ) (e : ℤ) where
-  zero-amount : T (isZero (fin s n e)) → n * up e ≡ 0
+  pub zero-amount : T (isZero (fin s n e)) → n * up e ≡ 0
   unfolding isZero eq
   zero-amount t =
       let h = eqb→eq (n * up e * 1) (0 * 1 * down e) (and-l (eqb (n * up e * 1) (0 * 1 * down e)) (Bool·beq s false || eqb (n * up e * 1) 0) t) in

@@ -13,7 +13,7 @@ use Rattle.rounding.specs.Good.{GoodIn}
 use Rattle.rounding.proofs.Value.{amount, by-parts, value}
 use Rattle.exact.proofs.Bools.{same-truth, or-l, or-r, or-cases}
 
-ltb-scale : (a b k : ℕ) → 0 < k → ltb (a * k) (b * k) ≡ ltb a b
+pub ltb-scale : (a b k : ℕ) → 0 < k → ltb (a * k) (b * k) ≡ ltb a b
 ltb-scale a b k K =
     same-truth (ltb (a * k) (b * k)) (ltb a b)
     (λ t. lt→ltb a b (lt-of-mul-lt-mul-right k (ltb→lt (a * k) (b * k) t)))
@@ -33,7 +33,7 @@ transfer test scale a p b q u v l P Q L h k =
     ∙ ap₂ test (mul-right-comm a q l ∙ ap (λ (z : ℕ). z * q) h ∙ mul-assoc u p q) (mul-right-comm b p l ∙ ap (λ (z : ℕ). z * p) k ∙ mul-assoc v q p ∙ ap (λ (z : ℕ). v * z) (mul-comm q p))
     ∙ scale u v (p * q) (mul-pos P Q)
 
-le-test : (a b : ℕ) → (ltb a b || eqb a b) ≡ leb a b
+pub le-test : (a b : ℕ) → (ltb a b || eqb a b) ≡ leb a b
 le-test a b =
     same-truth (ltb a b || eqb a b) (leb a b)
     (λ t. le→leb a b (⊎-elim (λ l. le-of-lt (ltb→lt a b l)) (λ e. le-of-eq (eqb→eq a b e)) (or-cases (ltb a b) (eqb a b) t)))

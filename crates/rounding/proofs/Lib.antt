@@ -15,3 +15,5 @@ pub mod ResultRange
 pub mod Words
 pub mod Powers
 pub mod Scaling
+pub mod TimesPower
+pub mod SizeWithin

@@ -1,18 +1,16 @@
 -- Scaling by powers of two, in every format: of `round`, and of the three operations by their amounts.
 use mathlib.Core.Path.{_≡_, refl, sym, ap, ap₂, _∙_}
-use Prim.Native.Nat.{ℕ, suc, _+_, _-_, _*_, _/_, _^_, _≤_, _<_}
-use native.Mathlib.Nat.{le-trans, le-of-eq, lt-of-le-of-lt, lt-of-lt-of-le, lt-of-not-le, lt-irrefl, mul-assoc, mul-comm, mul-one, one-mul, mul-left-comm, mul-mul-mul-comm, add-mul, mul-pos, mul-le-mul-right, le-mul-of-pos-right, sub-add-cancel}
-use native.Mathlib.Omega.{arith}
+use Prim.Native.Nat.{ℕ, _+_, _-_, _*_, _/_, _^_, _≤_, _<_}
+use native.Mathlib.Nat.{mul-assoc, mul-comm, mul-left-comm, mul-mul-mul-comm, add-mul, mul-pos, mul-le-mul-right, le-mul-of-pos-right}
 use mathlib.Core.Bool.{Bool, true, false, not}
-use lib.IntN.{pos, negsuc}
 use lib.Dec.{T, ltb, ltb→lt, nltb→le}
-use lib.Pow.{pow-add, pow-pos, pow-mono, shl-lt}
-use lib.Ieee.{Float, fin, Format, prec, emax, low, size, round, add, mul, div}
-use lib.Ieee.Fits.{two, two-le-pos}
+use lib.Pow.{pow-add, pow-pos}
+use lib.Ieee.{Float, Format, prec, low, size, round, add, mul, div}
+use lib.Ieee.Fits.{two}
 use lib.Ieee.Scale.{finite, grid-scale, round-same, normal-of-rounded}
 use Rattle.rounding.specs.Good.{GoodIn}
-use Rattle.rounding.proofs.Value.{amount, Digits, digits, value, amount-lt}
-use Rattle.rounding.proofs.Round.{round-amount, round-below, small-amount, many-digits, exact-if-finite, exact-amount, exact-good}
+use Rattle.rounding.proofs.Value.{amount}
+use Rattle.rounding.proofs.Round.{round-amount, round-below, small-amount, many-digits, exact-if-finite}
 use Rattle.rounding.proofs.Operations.{add-is, mul-is, div-is}
 
 -- ---- `round` of 2 ^ t times a fraction
@@ -84,68 +82,3 @@ module _ {f : Format} {x y y' : Float} (g : GoodIn f x) (h : GoodIn f y) (h' : G
 
   pub divisor-scaled : T (finite (div f x y)) → 2 ^ (prec f - 1) < amount f (div f x y') → amount f (div f x y) ≡ amount f (div f x y') * 2 ^ k
   divisor-scaled = rw (div-is g h' divisor-pos', divisor-is) (above-scaled f (amount f x) (amount f y') k divisor-pos')
-
--- ---- multiplying by a power of two
-digits-up : (f : Format) (a t : ℕ) → Digits f a → Digits f (a * 2 ^ t)
-digits-up f a t d =
-    record { q = d .q; j = d .j + t; few = d .few; is = ap (λ (x : ℕ). x * 2 ^ t) (d .is) ∙ mul-assoc (d .q) (2 ^ d .j) (2 ^ t) ∙ ap (λ (x : ℕ). d .q * x) (sym (pow-add 2 (d .j) t)) }
-
--- a number of few digits that is large enough has t zeros at its end
-record Shifted (f : Format) (a t : ℕ) : Type 0 where
-  pub rest : ℕ
-  pub is : a ≡ rest * 2 ^ t
-  pub few : Digits f rest
-
-digits-down : (f : Format) (a t : ℕ) → Digits f a → 2 ^ (prec f - 1) * 2 ^ t ≤ a → Shifted f a t
-digits-down f a t d h =
-    let lt : 2 ^ (prec f - 1 + t) < 2 ^ (prec f + d .j) = lt-of-le-of-lt (rw (← pow-add 2 (prec f - 1) t, d .is) at h) (shl-lt (prec f) (d .j) (d .few)) in
-    let le : t ≤ d .j = room (prec f) t (d .j) (two-le-pos (prec f) (two f)) (pow-lt-back (prec f - 1 + t) (prec f + d .j) lt) in
-    record {
-      rest = d .q * 2 ^ (d .j - t);
-      is = d .is ∙ ap (λ (x : ℕ). d .q * x) (ap (λ (x : ℕ). 2 ^ x) (sym (sub-add-cancel le)) ∙ pow-add 2 (d .j - t) t) ∙ sym (mul-assoc (d .q) (2 ^ (d .j - t)) (2 ^ t));
-      few = record { q = d .q; j = d .j - t; few = d .few; is = refl };
-    }
-  where
-    pow-lt-back : (i p : ℕ) → 2 ^ i < 2 ^ p → i < p
-    pow-lt-back i p h = lt-of-not-le (λ (g : p ≤ i). lt-irrefl (2 ^ i) (lt-of-lt-of-le h (pow-mono g)))
-
-    room : (p t j : ℕ) → 0 < p → p - 1 + t < p + j → t ≤ j
-    room p t j P h = omega arith
-
-module _ {f : Format} {x : Float} (g : GoodIn f x) (k : ℕ) where
-  module _ (h : GoodIn f (fin false 1 (pos k))) where
-    power-up-is : mul f x (fin false 1 (pos k)) ≡ round f false (amount f x * 2 ^ k) (2 ^ low f)
-    power-up-is =
-        let l = 2 ^ low f in
-        let b = amount f (fin false 1 (pos k)) in
-        let e : b ≡ 2 ^ k * l = sym (mul-one b) ∙ sym (value h .1) ∙ ap (λ (a : ℕ). a * l) (one-mul (2 ^ k)) in
-        mul-is g h
-        ∙ ap (λ (a : ℕ). round f false (amount f x * a) (l * l)) e
-        ∙ round-same f false (amount f x * (2 ^ k * l)) (l * l) (amount f x * 2 ^ k) l (mul-pos (pow-pos (low f)) (pow-pos (low f))) (pow-pos (low f)) (simp mul-assoc)
-
-    pub power-up : T (finite (mul f x (fin false 1 (pos k)))) → amount f (mul f x (fin false 1 (pos k))) ≡ amount f x * 2 ^ k
-    power-up = rw power-up-is (exact-if-finite f (amount f x * 2 ^ k) (digits-up f (amount f x) k (digits g)))
-
-  module _ (h : GoodIn f (fin false 1 (negsuc k))) (b : 2 ^ (prec f - 1) * 2 ^ suc k ≤ amount f x) where
-    shifted : Shifted f (amount f x) (suc k)
-    shifted = digits-down f (amount f x) (suc k) (digits g) b
-
-    rest-lt : shifted .rest < 2 ^ (low f + suc (emax f))
-    rest-lt = lt-of-le-of-lt (le-trans (le-mul-of-pos-right (shifted .rest) (pow-pos (suc k))) (le-of-eq (sym (shifted .is)))) (amount-lt g)
-
-    power-down-is : mul f x (fin false 1 (negsuc k)) ≡ round f false (shifted .rest) (2 ^ low f)
-    power-down-is =
-        let l = 2 ^ low f in
-        let w = shifted .rest in
-        let a = amount f (fin false 1 (negsuc k)) in
-        let e : amount f x * a ≡ w * l =
-        ap (λ (z : ℕ). z * a) (shifted .is) ∙ mul-assoc w (2 ^ suc k) a ∙ ap (λ (z : ℕ). w * z) (mul-comm (2 ^ suc k) a ∙ sym (value h .1) ∙ one-mul l) in
-        mul-is g h
-        ∙ ap (λ (z : ℕ). round f false z (l * l)) e
-        ∙ round-same f false (w * l) (l * l) w l (mul-pos (pow-pos (low f)) (pow-pos (low f))) (pow-pos (low f)) (mul-assoc w l l)
-
-    pub power-down-good : GoodIn f (mul f x (fin false 1 (negsuc k)))
-    power-down-good = rw power-down-is (exact-good f (shifted .rest) (shifted .few) rest-lt)
-
-    pub power-down : amount f x ≡ amount f (mul f x (fin false 1 (negsuc k))) * 2 ^ suc k
-    power-down = shifted .is ∙ ap (λ (z : ℕ). z * 2 ^ suc k) (sym (ap (amount f) power-down-is ∙ exact-amount f (shifted .rest) (shifted .few) rest-lt))

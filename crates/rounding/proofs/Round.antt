@@ -1,21 +1,21 @@
 -- `round` of a fraction that is not negative: its amount, when it is good, how near it is, and its order.
 use mathlib.Core.Path.{_≡_, refl, sym, ap, _∙_, subst}
 use Prim.Native.Nat.{ℕ, zero, suc, _+_, _-_, _*_, _/_, _^_, _≤_, _<_}
-use native.Mathlib.Nat.{le-trans, lt-of-lt-of-le, mul-assoc, mul-comm, mul-one, zero-mul, mul-div-cancel, le-add-left, sub-le, mul-le-mul-right, mul-pos, sub-add-cancel}
+use native.Mathlib.Nat.{le-trans, lt-of-lt-of-le, mul-assoc, mul-comm, mul-one, zero-mul, mul-div-cancel, le-add-left, sub-le, mul-le-mul-right, mul-pos, mul-right-comm, eq-of-mul-eq-mul-right, sub-add-cancel}
 use native.Mathlib.Omega.{arith}
 use mathlib.Core.Bool.{Bool, true, false, not, cond}
-use lib.IntN.{pos}
+use lib.IntN.{ℤ, pos}
 use lib.Dec.{T, ltb, leb→le, ltb→lt, nltb→le}
 use lib.Pow.{pow-add, pow-pos, pow-mono, shl-lt}
-use lib.Ieee.{Float, nan, inf, fin, Format, prec, emax, low, size, odd, units, fits, round, le}
+use lib.Ieee.{Float, nan, inf, fin, Format, prec, emax, low, up, down, size, odd, units, fits, round, le}
 use lib.Ieee.Digits.{size-le}
-use lib.Ieee.Fits.{round-fits, round-is, two, two-le-pos, reach}
-use lib.Ieee.Exact.{HasValue}
+use lib.Ieee.Fits.{round-fits, round-is, two, two-le-pos, reach, down-pos}
+use lib.Ieee.Exact.{HasValue, round-exact}
 use lib.Ieee.Nearest.{closest}
 use lib.Ieee.Order.{kept, drop, round-mono}
 use lib.Ieee.Scale.{grid, overflow, finite, round-val, round-under, round-same, normal-of-fraction, normal-of-rounded}
 use Rattle.rounding.specs.Good.{GoodIn}
-use Rattle.rounding.proofs.Value.{amount, amount-of-value, of-value, unique, Digits, digits, amount-lt}
+use Rattle.rounding.proofs.Value.{amount, amount-of-value, of-value, by-parts, Digits, held-value, held-digits, held-lt, held-unique}
 use Rattle.rounding.proofs.Compare.{le-amounts}
 use Rattle.rounding.proofs.Grid.{OnePartIn, within-same, within-cancel, kept-near, closest-exact}
 
@@ -59,14 +59,39 @@ module _ (f : Format) (a : ℕ) (d : Digits f a) (h : a < 2 ^ (low f + suc (emax
   exact-value : HasValue (round f false a (2 ^ low f)) false a (2 ^ low f)
   exact-value = subst (λ (x : ℕ). HasValue (round f false a (2 ^ low f)) false x (2 ^ low f)) (exact-grid f a d) (round-val f a (2 ^ low f) (rw (exact-grid f a d) h))
 
-  pub exact-good : GoodIn f (round f false a (2 ^ low f))
-  exact-good = of-value f (round f false a (2 ^ low f)) a (2 ^ low f) exact-value (round-fits f false a (2 ^ low f))
-
   pub exact-amount : amount f (round f false a (2 ^ low f)) ≡ a
   exact-amount = amount-of-value f (round f false a (2 ^ low f)) false a exact-value
 
+-- ---- a number of either sign that the format holds is what `round` makes of each fraction that has its value
+-- a / c is m·u / d, which is z / l
+crossed : (a c mu d z l : ℕ) → 0 < d → a * d ≡ mu * c → mu * l ≡ z * d → a * l ≡ z * c
+crossed a c mu d z l D h k =
+    eq-of-mul-eq-mul-right d D (a * l) (z * c) (mul-right-comm a l d ∙ ap (λ (x : ℕ). x * l) h ∙ mul-right-comm mu c l ∙ ap (λ (x : ℕ). x * c) k ∙ mul-right-comm z d c)
+
+pub round-held : (f : Format) (s : Bool) (m : ℕ) (e : ℤ) (a c : ℕ) → T (fits f (fin s m e)) → 0 < c → a * down e ≡ m * up e * c → round f s a c ≡ fin s m e
+round-held f s m e a c t C h =
+    from (round f s a c) (round-fits f s a c)
+    (round-exact f s a c (d .q) (d .j) C (d .few) (rw (← (d .is)) (held-lt f s m e t)) (units-are ∙ ap (λ (x : ℕ). x * c) (d .is)))
+  where
+    d : Digits f (amount f (fin s m e))
+    d = held-digits f s m e t
+
+    units-are : a * 2 ^ low f ≡ amount f (fin s m e) * c
+    units-are = crossed a c (m * up e) (down e) (amount f (fin s m e)) (2 ^ low f) (down-pos e) h (held-value f s m e t .1)
+
+    from : (x : Float) → T (fits f x) → HasValue x s a c → x ≡ fin s m e
+    from nan g v = absurd v
+    from (inf r) g v = absurd v
+    from (fin r n k) g v =
+        let same : fin r n k ≡ fin s n k = ap (λ (b : Bool). fin b n k) (v .0) in
+        same
+        ∙ held-unique f s n k m e (rw same at g) t
+        (amount-of-value f (fin s n k) s (amount f (fin s m e)) (refl, sym (crossed (amount f (fin s m e)) (2 ^ low f) a c (n * up k) (down k) C (sym units-are) (sym (v .1)))))
+
 pub round-back : {f : Format} {x : Float} → GoodIn f x → round f false (amount f x) (2 ^ low f) ≡ x
-round-back {f} {x} g = unique (exact-good f (amount f x) (digits g) (amount-lt g)) g (exact-amount f (amount f x) (digits g) (amount-lt g))
+round-back {f} {x} g =
+    by-parts f (λ x. round f false (amount f x) (2 ^ low f) ≡ x)
+    (λ m e g. round-held f false m e (amount f (fin false m e)) (2 ^ low f) (g .held) (pow-pos (low f)) (sym (held-value f false m e (g .held) .1))) x g
 
 few-digits : (f : Format) (a : ℕ) → a < 2 ^ prec f → Digits f a
 few-digits f a h = record { q = a; j = 0; few = h; is = sym (mul-one a) }

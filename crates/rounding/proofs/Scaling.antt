@@ -1,20 +1,17 @@
 -- The statements of `specs/Scaling.antt`: what `Powers.antt` says of every format, at binary64.
 use mathlib.Core.Path.{_≡_, sym, ap, ap₂, _∙_}
 use mathlib.Core.Logic.{inl, inr}
-use Prim.Native.Nat.{ℕ, suc, _+_, _*_, _^_, _≤_, _<_, suc-le-suc}
-use native.Mathlib.Nat.{zero-mul, mul-zero, mul-pos, one-mul, mul-one, mul-assoc, eq-of-mul-eq-mul-right, mul-mul-mul-comm, lt-irrefl, lt-of-lt-of-le, le-mul-of-pos-right}
-use lib.IntN.{pos, negsuc}
-use lib.Dec.{leb, ltb, le→leb, lt→ltb, lit<}
-use lib.Pow.{pow-add, pow-pos, pow-lt, pow-mono}
-use lib.Ieee.{Float, binary64, fits}
-use lib.Ieee.Fits.{and-i}
+use Prim.Native.Nat.{ℕ, _+_, _*_, _^_, _<_}
+use native.Mathlib.Nat.{zero-mul, mul-zero, mul-pos, mul-one, mul-assoc, eq-of-mul-eq-mul-right, mul-mul-mul-comm, lt-irrefl}
+use lib.Pow.{pow-add, pow-pos}
+use lib.Ieee.{Float, binary64}
 use Rattle.definitions.specs.Numbers.{_⊗_, _⊘_, 0·0, units}
 use Rattle.rounding.specs.Good.{Good}
-use Rattle.rounding.specs.Scaling.{Scaled, power, PowerUpScales, PowerDownScales, SumScales, ProductScales, DividendScales, DivisorScales, QuotientOfScaled}
+use Rattle.rounding.specs.Scaling.{Scaled, SumScales, ProductScales, DividendScales, DivisorScales, QuotientOfScaled}
 use Rattle.rounding.proofs.Value.{amount}
 use Rattle.rounding.proofs.Operations.{add-good, mul-good, div-good, mul-of-zero, div-of-zero, divisor-pos}
 use Rattle.rounding.proofs.Laws.{units-is, unique-units, units-zero, in-scale, sum-in-range, product-good, quotient-good, product-cases, quotient-cases, zero-amount-of, above-amount}
-use Rattle.rounding.proofs.Powers.{add-unscaled-finite, add-scaled, div-alike, mul-scaled, dividend-scaled, divisor-scaled, power-up, power-down, power-down-good}
+use Rattle.rounding.proofs.Powers.{add-unscaled-finite, add-scaled, div-alike, mul-scaled, dividend-scaled, divisor-scaled}
 
 amounts : {k : ℕ} {x x' : Float} → Scaled k x x' → amount binary64 x' ≡ amount binary64 x * 2 ^ k
 amounts {k} {x} {x'} s = rw (units-is x', units-is x) at (s .by)
@@ -39,12 +36,6 @@ scaled-then {j} {k} {x} s r =
 -- both zero
 scaled-zero : (k : ℕ) (x x' : Float) → Good x → Good x' → x ≡ 0·0 → x' ≡ 0·0 → Scaled k x x'
 scaled-zero k x x' g h p q = record { from = g; to = h; by = ap units q ∙ units-zero ∙ sym (ap (λ (a : ℕ). a * 2 ^ k) (ap units p ∙ units-zero) ∙ zero-mul (2 ^ k)) }
-
-pub power-up-scales : PowerUpScales
-power-up-scales k x g h t = let s = in-scale (x ⊗ power (pos k)) t in scaled g (mul-good g h s) (power-up g k h s)
-
-pub power-down-scales : PowerDownScales
-power-down-scales k x g h b = let b' = rw (units-is x) at b in scaled (power-down-good g k h b') g (power-down g k h b')
 
 pub sum-scales : SumScales
 sum-scales k x x' y y' s r t =
@@ -119,18 +110,3 @@ divisor-scales k x y y' g r t t' = elim (quotient-cases x y' t .1) [
 
     good' : Good (x ⊘ y')
     good' = quotient-good g (r .to) t
-
--- ---- which powers are numbers
-pub power-up-is-good : (k : ℕ) → k ≤ 1023 → Good (power (pos k))
-unfolding fits
-power-up-is-good k h = record { plus = tt; held = lt→ltb (1 * 2 ^ k) (2 ^ 1024) (rw one-mul (pow-lt (suc-le-suc h))) }
-
-pub power-down-is-good : (k : ℕ) → suc k ≤ 1074 → Good (power (negsuc k))
-unfolding fits
-power-down-is-good k h =
-    record {
-      plus = tt;
-      held =
-          and-i (leb (2 ^ suc k) (2 ^ 1074)) (ltb 1 (2 ^ 1024 * 2 ^ suc k)) (le→leb (2 ^ suc k) (2 ^ 1074) (pow-mono h))
-          (lt→ltb 1 (2 ^ 1024 * 2 ^ suc k) (lt-of-lt-of-le (lit< tt) (le-mul-of-pos-right (2 ^ 1024) (pow-pos (suc k)))));
-    }

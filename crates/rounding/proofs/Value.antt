@@ -2,12 +2,12 @@
 use mathlib.Core.Path.{_≡_, refl, sym, ap, _∙_}
 use Prim.Native.Nat.{ℕ, zero, suc, _+_, _-_, _*_, _/_, _%_, _^_, _≤_, _<_}
 use native.Mathlib.Nat.{sub-add-cancel, mul-left-comm, mul-pos, mul-le-mul-right, le-trans, le-of-eq, le-of-suc-le-suc, lt-of-not-le, lt-irrefl, lt-of-lt-of-le, mul-assoc, mul-comm, mul-one, one-mul, mul-div-cancel, mul-lt-mul-of-pos-right, lt-of-mul-lt-mul-right, zero-mul}
-use mathlib.Core.Bool.{Bool, true, false, _&&_, true≢false}
+use mathlib.Core.Bool.{Bool, true, false, _&&_, cond, true≢false}
 use lib.IntN.{ℤ, pos, negsuc}
-use lib.Dec.{T, leb, ltb, eqb, leb→le, ltb→lt, eqb→eq}
+use lib.Dec.{T, leb, ltb, eqb, leb→le, le→leb, ltb→lt, lt→ltb, eqb→eq}
 use lib.Pow.{pow-add, pow-pos, pow-lt}
-use lib.Ieee.{Float, nan, inf, fin, Format, prec, emax, low, up, down, size, fits, hid, toBits, ofBits}
-use lib.Ieee.Fits.{and-l, and-r, up-pos, down-pos}
+use lib.Ieee.{Float, nan, inf, fin, Format, prec, emax, low, up, down, size, fits, hid, top, toBits, ofBits}
+use lib.Ieee.Fits.{and-i, and-l, and-r, up-pos, down-pos}
 use lib.Ieee.Exact.{HasValue}
 use lib.Ieee.Bits.{ofBits-toBits}
 use Rattle.rounding.specs.Good.{GoodIn}
@@ -30,12 +30,12 @@ one-le : (a b : ℕ) → 0 < a → a * b ≡ 1 → b ≤ 1
 one-le a b h e = le-trans (le-of-eq (sym (one-mul b))) (le-trans (mul-le-mul-right b h) (le-of-eq e))
 
 -- The tests of `fits` that hold of a zero too.
-record Fit (f : Format) (m : ℕ) (e : ℤ) : Type 0 where
+pub record Fit (f : Format) (m : ℕ) (e : ℤ) : Type 0 where
   pub few : m < 2 ^ prec f
   pub deep : down e ≤ 2 ^ low f
   pub under : m * up e < 2 ^ suc (emax f) * down e
 
-fit : (f : Format) (s : Bool) (m : ℕ) (e : ℤ) → T (fits f (fin s m e)) → Fit f m e
+pub fit : (f : Format) (s : Bool) (m : ℕ) (e : ℤ) → T (fits f (fin s m e)) → Fit f m e
 unfolding fits
 fit f s zero e t =
     record {
@@ -53,6 +53,28 @@ fit f s (suc m) e t =
       deep = leb→le (down e) (2 ^ low f) (and-r (A && B) C (and-l (A && B && C) D t));
       under = ltb→lt (suc m * up e) (2 ^ suc (emax f) * down e) (and-r (A && B && C) D t);
     }
+
+pub odd-digits : (f : Format) (s : Bool) (m : ℕ) (e : ℤ) → T (fits f (fin s (suc m) e)) → suc m % 2 ≡ 1
+unfolding fits
+odd-digits f s m e t =
+    let A = eqb (suc m % 2) 1 in
+    let B = ltb (suc m) (2 ^ prec f) in
+    let C = leb (down e) (2 ^ low f) in
+    let D = ltb (suc m * up e) (2 ^ suc (emax f) * down e) in
+    eqb→eq (suc m % 2) 1 (and-l A B (and-l (A && B) C (and-l (A && B && C) D t)))
+
+-- The same digits under another exponent.
+pub refit : (f : Format) (s : Bool) (m : ℕ) (e e' : ℤ) → T (fits f (fin s (suc m) e)) → down e' ≤ 2 ^ low f → suc m * up e' < 2 ^ suc (emax f) * down e' → T (fits f (fin s (suc m) e'))
+unfolding fits
+refit f s m e e' t deep under =
+    let A = eqb (suc m % 2) 1 in
+    let B = ltb (suc m) (2 ^ prec f) in
+    let C = leb (down e) (2 ^ low f) in
+    let D = ltb (suc m * up e) (2 ^ suc (emax f) * down e) in
+    let C' = leb (down e') (2 ^ low f) in
+    and-i (A && B && C') (ltb (suc m * up e') (2 ^ suc (emax f) * down e'))
+    (and-i (A && B) C' (and-l (A && B) C (and-l (A && B && C) D t)) (le→leb (down e') (2 ^ low f) deep))
+    (lt→ltb (suc m * up e') (2 ^ suc (emax f) * down e') under)
 
 -- ---- a number that fits is q * 2 ^ j smallest values
 
@@ -98,30 +120,44 @@ module _ (f : Format) (s : Bool) (m : ℕ) (e : ℤ) (k : Fit f m e) where
   fin-under = lt-of-mul-lt-mul-right (down e)
       (rw (← (fin-value .1)) (rw pow-add (lt-of-lt-of-le (mul-lt-mul-of-pos-right (k .under) (pow-pos (low f))) (le-of-eq (simp (mul-assoc, mul-comm, mul-left-comm))))))
 
+-- Of a number of either sign that the format holds: "m·up e·2^low = amount·down e", the amount is exactly its size.
+module _ (f : Format) (s : Bool) (m : ℕ) (e : ℤ) (t : T (fits f (fin s m e))) where
+  pub held-value : HasValue (fin s m e) s (amount f (fin s m e)) (2 ^ low f)
+  held-value = fin-value f s m e (fit f s m e t)
+
+  pub held-digits : Digits f (amount f (fin s m e))
+  held-digits = fin-digits f s m e (fit f s m e t)
+
+  pub held-lt : amount f (fin s m e) < 2 ^ (low f + suc (emax f))
+  held-lt = fin-under f s m e (fit f s m e t)
+
 module _ {f : Format} {x : Float} (g : GoodIn f x) where
-  -- "m·up e·2^low = amount·down e": the amount is exactly the number.
   pub value : HasValue x false (amount f x) (2 ^ low f)
-  value = by-parts f (λ x. HasValue x false (amount f x) (2 ^ low f)) (λ m e g. fin-value f false m e (fit f false m e (g .held))) x g
+  value = by-parts f (λ x. HasValue x false (amount f x) (2 ^ low f)) (λ m e g. held-value f false m e (g .held)) x g
 
   pub digits : Digits f (amount f x)
-  digits = by-parts f (λ x. Digits f (amount f x)) (λ m e g. fin-digits f false m e (fit f false m e (g .held))) x g
+  digits = by-parts f (λ x. Digits f (amount f x)) (λ m e g. held-digits f false m e (g .held)) x g
 
-  pub amount-lt : amount f x < 2 ^ (low f + suc (emax f))
-  amount-lt = by-parts f (λ x. amount f x < 2 ^ (low f + suc (emax f))) (λ m e g. fin-under f false m e (fit f false m e (g .held))) x g
+-- ---- sign and amount tell the number: `toBits` sees nothing else
+bits : Format → Bool → ℕ → ℕ
+bits f s n = cond s (top f) 0 + (size n - prec f) * hid f + n / 2 ^ (size n - prec f)
 
--- ---- the amount tells the number: `toBits` sees nothing else
-bits : (f : Format) → ℕ → ℕ
-bits f n = 0 + (size n - prec f) * hid f + n / 2 ^ (size n - prec f)
-
-toBits-bits : (f : Format) (x : Float) → GoodIn f x → toBits f x ≡ bits f (amount f x)
+toBits-bits : (f : Format) (s : Bool) (m : ℕ) (e : ℤ) → toBits f (fin s m e) ≡ bits f s (amount f (fin s m e))
 unfolding toBits bits amount
-toBits-bits f = by-parts f (λ x. toBits f x ≡ bits f (amount f x)) (λ m e g. refl)
+toBits-bits f s m e = refl
+
+pub held-unique : (f : Format) (s : Bool) (m : ℕ) (e : ℤ) (n : ℕ) (d : ℤ) → T (fits f (fin s m e)) → T (fits f (fin s n d))
+    → amount f (fin s m e) ≡ amount f (fin s n d) → fin s m e ≡ fin s n d
+held-unique f s m e n d g h same =
+    sym (ofBits-toBits f (fin s m e) g)
+    ∙ ap (ofBits f) (toBits-bits f s m e ∙ ap (bits f s) same ∙ sym (toBits-bits f s n d))
+    ∙ ofBits-toBits f (fin s n d) h
 
 pub unique : {f : Format} {x y : Float} → GoodIn f x → GoodIn f y → amount f x ≡ amount f y → x ≡ y
-unique {f} {x} {y} g h e =
-    sym (ofBits-toBits f x (g .held))
-    ∙ ap (ofBits f) (toBits-bits f x g ∙ ap (bits f) e ∙ sym (toBits-bits f y h))
-    ∙ ofBits-toBits f y (h .held)
+unique {f} {x} {y} g h =
+    by-parts f (λ x. amount f x ≡ amount f y → x ≡ y)
+    (λ m e g. by-parts f (λ y. amount f (fin false m e) ≡ amount f y → fin false m e ≡ y) (λ n d h. held-unique f false m e n d (g .held) (h .held)) y h)
+    x g
 
 -- ---- a value that is not negative and fits is good
 pub of-value : (f : Format) (x : Float) (a c : ℕ) → HasValue x false a c → T (fits f x) → GoodIn f x

@@ -7,7 +7,7 @@ use lib.Arith.{le→nltb}
 use lib.Ieee.{Float, nan, inf, fin, binary64, isNan, ofBits, toBits, nanBits, div, ne}
 use lib.Ieee.Bits.{nanBits-is, nanBits-above}
 use lib.Ieee.Compare.{differs-from-itself}
-use Rattle.definitions.specs.Numbers.{0·0, 1·0, smallest}
+use Rattle.definitions.specs.Numbers.{0·0, 1·0, smallest, largest}
 
 -- The word of plus infinity; above it, the sign taken off, are the NaN patterns.
 abbrev infinity : ℕ
@@ -41,7 +41,7 @@ not-nan nan e = absurd (true≢false e)
 not-nan (inf s) e = tt
 not-nan (fin s m e) h = tt
 
--- The literals 0.0, 1.0 and 2.2250738585072014e-308, as the programs have them.
+-- The literals 0.0, 1.0, 2.2250738585072014e-308 and 1.7976931348623157e308, as the programs have them.
 pub zero-word : ofBits binary64 0 ≡ 0·0
 unfolding ofBits
 zero-word = refl
@@ -53,3 +53,7 @@ one-word = refl
 pub smallest-word : ofBits binary64 4503599627370496 ≡ smallest
 unfolding ofBits
 smallest-word = refl
+
+pub largest-word : ofBits binary64 9218868437227405311 ≡ largest
+unfolding ofBits
+largest-word = refl

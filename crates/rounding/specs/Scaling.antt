@@ -1,11 +1,12 @@
 -- Scaling by powers of two: exact, and it goes through every operation in range.
 use mathlib.Core.Path.{_≡_}
-use Prim.Native.Nat.{ℕ, suc, _+_, _*_, _^_, _≤_, _<_}
-use mathlib.Core.Bool.{false}
-use lib.IntN.{ℤ, pos, negsuc}
+use Prim.Native.Nat.{ℕ, _+_, _*_, _^_, _<_}
+use mathlib.Core.Bool.{Bool, false}
+use lib.IntN.{ℤ, pos, negℤ, _+ℤ_}
 use lib.Dec.{T}
-use lib.Ieee.{Float, fin}
+use lib.Ieee.{Float, nan, inf, fin, binary64, fits, up, down, le}
 use Rattle.definitions.specs.Numbers.{_⊕_, _⊗_, _⊘_, finite, addInRange, mulInRange, divInRange, units}
+use Rattle.definitions.specs.Moving.{timesPower}
 use Rattle.rounding.specs.Good.{Good}
 
 -- The good number x' is exactly 2^k times the good number x.
@@ -18,15 +19,48 @@ pub record Scaled (k : ℕ) (x x' : Float) : Type 0 where
 abbrev pub power : ℤ → Float
 power e = fin false 1 e
 
--- Multiplying by 2^k is exact if the product is finite; by 2^-k, if it is 2^-1022 at least (2^52 units).
-abbrev pub PowerUpScales : Type 0
-PowerUpScales = (k : ℕ) (x : Float) → Good x → Good (power (pos k)) → T (finite (x ⊗ power (pos k))) → Scaled k x (x ⊗ power (pos k))
+-- ---- times 2^k for numbers of either sign, zeros too, and k of either sign (`timesPower`)
+abbrev pub negative : Float → Bool
+negative nan = false
+negative (inf sign) = sign
+negative (fin sign m e) = sign
 
-abbrev pub PowerDownScales : Type 0
-PowerDownScales =
-    (k : ℕ) (x : Float) → Good x → Good (power (negsuc k)) → 2 ^ 52 * 2 ^ suc k ≤ units x
-    → Scaled (suc k) (x ⊗ power (negsuc k)) x
+-- y is x·2^k by its value: a number of binary64, with x's sign, and 2^k times x's size (up k / down k is 2^k).
+pub record TimesByValue (k : ℤ) (x y : Float) : Type 0 where
+  pub is-finite : T (finite y)
+  pub held : T (fits binary64 y)
+  pub sign : negative y ≡ negative x
+  pub size : units y * down k ≡ units x * up k
 
+-- `timesPower` is that number wherever binary64 holds it, and no other number is.
+abbrev pub TimesPowerByValue : Type 0
+TimesPowerByValue =
+    (k : ℤ) (x : Float) → T (finite x) → T (fits binary64 x)
+    → (T (fits binary64 (timesPower k x)) → TimesByValue k x (timesPower k x))
+    × ((y : Float) → TimesByValue k x y → y ≡ timesPower k x)
+
+-- The product with a power and the quotient by one are exact wherever binary64 holds the result.
+abbrev pub ProductWithPower : Type 0
+ProductWithPower = (k : ℤ) (x : Float) → T (finite x) → T (fits binary64 (timesPower k x)) → x ⊗ power k ≡ timesPower k x
+
+abbrev pub QuotientByPower : Type 0
+QuotientByPower = (k : ℤ) (x : Float) → T (finite x) → T (fits binary64 (timesPower (negℤ k) x)) → x ⊘ power k ≡ timesPower (negℤ k) x
+
+-- Two moves are one, and a move keeps the order.
+abbrev pub TimesPowerTwice : Type 0
+TimesPowerTwice = (a b : ℤ) (x : Float) → timesPower b (timesPower a x) ≡ timesPower (a +ℤ b) x
+
+abbrev pub TimesPowerKeepsOrder : Type 0
+TimesPowerKeepsOrder = (k : ℤ) (x y : Float) → le (timesPower k x) (timesPower k y) ≡ le x y
+
+-- For good numbers it is `Scaled`, both ways.
+abbrev pub TimesPowerScales : Type 0
+TimesPowerScales = (k : ℕ) (x : Float) → Good x → T (fits binary64 (timesPower (pos k) x)) → Scaled k x (timesPower (pos k) x)
+
+abbrev pub ScaledIsTimesPower : Type 0
+ScaledIsTimesPower = (k : ℕ) (x x' : Float) → Scaled k x x' → x' ≡ timesPower (pos k) x
+
+-- ---- through the operations
 -- The larger result has to be finite, and a product or quotient that is not zero has to be above 2^-1022 on the smaller side.
 abbrev pub SumScales : Type 0
 SumScales = (k : ℕ) (x x' y y' : Float) → Scaled k x x' → Scaled k y y' → T (addInRange x' y') → Scaled k (x ⊕ y) (x' ⊕ y')

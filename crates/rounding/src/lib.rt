@@ -3,7 +3,7 @@
 ghost use mathlib.Core.Path.{_≡_};
 ghost use lib.Ieee.{binary64, ofBits, toBits};
 ghost use Rattle.definitions.specs.Numbers.{finite};
-ghost use Rattle.rounding.specs.ResultRange.{resultInRange};
+ghost use Rattle.rounding.specs.ResultRange.{resultInRange, sizeWithin};
 
 // Whether x is neither a NaN nor an infinity.
 pub fn is_finite(x: f64) -> bool
@@ -20,6 +20,15 @@ pub fn result_in_range(x: f64, y: f64, r: f64) -> bool
     let zero = (x == 0.0) | (y == 0.0);
     let large = 2.2250738585072014e-308 < r;
     finite & (zero | large)
+}
+
+// Whether x is zero, or its size is from `least` to `most`.
+pub fn size_within(least: f64, most: f64, x: f64) -> bool
+    ensures { λ r. ⌜ r ≡ sizeWithin least most x ⌝ }
+{
+    let large = (x == 0.0) | (least <= x) | (x <= -least);
+    let small = (x <= most) & (-most <= x);
+    large & small
 }
 
 // The number whose bits are w; every NaN pattern gives the one NaN of the model.

@@ -9,9 +9,10 @@ use lib.Dec.{leb, eqb, leb→le, eqb→eq}
 use lib.ListN.{length}
 use lib.Ieee.{Float}
 use lib.Ieee.Fits.{and-l, and-r}
-use Rattle.definitions.specs.Questions.{Asked, pass, _then_, question1, question2, question3, question4, question5, numberQuestions, tableInput, entryInput}
+use Rattle.definitions.specs.Questions.{Asked, pass, _then_, question1, question2, question3, question4, question5, placeQuestions, numberQuestions, tableInput, entryInput}
 use Rattle.definitions.specs.File.{fileLength}
 use Rattle.definitions.specs.Saving.{saveQuestions}
+use Rattle.definitions.specs.Moving.{moveInput}
 use Rattle.definitions.specs.Column.{columnReading, columnShape, columnInput}
 use Rattle.steps.proofs.QuestionLaws.{then-first, then-next, then-assoc, ask-yes, is-stage, one-stage}
 use Rattle.answers.specs.Outcome.{ComesTo}
@@ -174,6 +175,13 @@ module _ (reading n : ℕ) (sheet : List Float) where
   table-input-passed room e =
       let p = shape-passed (question4 (n * n) room then numberQuestions reading n sheet) e in
       (p .0, room-held (n * n) room (then-first (question4 (n * n) room) (numberQuestions reading n sheet) (p .1)))
+
+  -- Moving asks 6 to 8 next.
+  pub move-input-passed : (room : ℕ) → moveInput reading n sheet room ≡ pass → Square n sheet × (n * n ≤ room) × (placeQuestions reading n sheet ≡ pass)
+  unfolding moveInput
+  move-input-passed room e =
+      let p = shape-passed (question4 (n * n) room then placeQuestions reading n sheet) e in
+      (p .0, room-held (n * n) room (then-first (question4 (n * n) room) (placeQuestions reading n sheet) (p .1)), then-next (question4 (n * n) room) (placeQuestions reading n sheet) (p .1))
 
   pub entry-input-passed : (i j : ℕ) → entryInput reading n sheet i j ≡ pass → Square n sheet × ((1 ≤ i) × (i ≤ n)) × ((1 ≤ j) × (j ≤ n))
   unfolding entryInput question5

@@ -1,7 +1,9 @@
-// Questions 1 to 9 of document 01, in its order, for the whole table, one column and one entry. The three
-// public calls have no `requires`: each question is asked only where the ones before it passed.
+// Questions 1 to 9 of document 01, in its order, for the whole table, one column and one entry, and those of
+// moving. The public calls have no `requires`: each question is asked only where the ones before it passed.
+ghost use mathlib.Core.Bool.{cond};
 ghost use Rattle.definitions.specs.Questions.{placeQuestions, numberQuestions, tableInput, entryInput};
 ghost use Rattle.definitions.specs.Column.{columnInput};
+ghost use Rattle.definitions.specs.Moving.{moveInput};
 ghost use Rattle.answers.specs.Outcome.{ComesTo};
 ghost use Rattle.shape.specs.Square.{Square};
 use answers::Asked;
@@ -31,12 +33,16 @@ fn ask_all_places(reading: usize, n: usize, sheet: &[f64]) -> Asked
     ask_places(8, reading, n, sheet)
 }
 
-// Questions 6 to 9.
-fn ask_numbers(reading: usize, n: usize, sheet: &[f64]) -> Asked
+// Questions 6 to 9, or 6 to 8 alone for a call that 9 does not concern. One function for both, so that the
+// compiler puts the places' questions into it.
+fn ask_numbers(nine: bool, reading: usize, n: usize, sheet: &[f64]) -> Asked
     requires { ⌜ Square n (now sheet) ⌝ }
-    ensures { λ r. ⌜ ComesTo (numberQuestions reading n (now (sheet .entry))) (r .number) (r .row) (r .column) ⌝ }
+    ensures { λ r. ⌜ ComesTo (cond nine (numberQuestions reading n (now (sheet .entry))) (placeQuestions reading n (now (sheet .entry)))) (r .number) (r .row) (r .column) ⌝ }
 {
     let places = ask_all_places(reading, n, sheet);
+    if !nine {
+        return places;
+    }
     if places.number != 0 {
         return places;
     }
@@ -55,7 +61,7 @@ pub fn table_input(reading: usize, n: usize, sheet: &[f64], room: usize) -> Aske
             column: 0,
         };
     }
-    ask_numbers(reading, n, sheet)
+    ask_numbers(true, reading, n, sheet)
 }
 
 // The same for the column of a stage, counted from 1; `room` is the length of its answer area.
@@ -70,7 +76,7 @@ pub fn column_input(reading: usize, n: usize, sheet: &[f64], room: usize, stage:
             column: 0,
         };
     }
-    ask_numbers(1, n, sheet)
+    ask_numbers(true, 1, n, sheet)
 }
 
 // The same for the entry at row i and column j, counted from 1.
@@ -85,5 +91,20 @@ pub fn entry_input(reading: usize, n: usize, sheet: &[f64], i: usize, j: usize) 
             column: 0,
         };
     }
-    ask_numbers(reading, n, sheet)
+    ask_numbers(true, reading, n, sheet)
+}
+
+// The questions of moving that come before its own; `area` is the length of the second area.
+pub fn move_input(reading: usize, n: usize, sheet: &[f64], area: usize) -> Asked
+    ensures { λ r. ⌜ ComesTo (moveInput reading n (now (sheet .entry)) area) (r .number) (r .row) (r .column) ⌝ }
+{
+    let shape = shape::ask_table(reading, n, sheet.len(), area);
+    if shape != 0 {
+        return Asked {
+            number: shape,
+            row: 0,
+            column: 0,
+        };
+    }
+    ask_numbers(false, reading, n, sheet)
 }

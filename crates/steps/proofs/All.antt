@@ -1,6 +1,8 @@
 -- The laws of `all`: what holds of all holds of each; tests that agree; tests gathered in another order.
-use mathlib.Core.Path.{_≡_, refl, ap₂}
+use mathlib.Core.Path.{_≡_, refl, sym, ap, ap₂, _∙_}
 use Prim.Native.Nat.{ℕ, zero, suc, _+_, _≤_, _<_}
+use native.Mathlib.Nat.{zero-add}
+use native.Mathlib.Numerals.{add-one}
 use native.Mathlib.Omega.{arith}
 use mathlib.Core.Bool.{Bool, _&&_}
 use lib.Dec.{T}
@@ -28,6 +30,11 @@ pub all-same : (p q : ℕ → Bool) (lo m : ℕ) → ((i : ℕ) → lo ≤ i →
 unfolding all
 all-same p q lo zero f = refl
 all-same p q lo (suc m) f = ap₂ (λ a b. a && b) (all-same p q lo m (λ i l h. f i l (omega arith))) (f (lo + m) (omega arith) (omega arith))
+
+-- A loop's flag: the tests so far, and one more.
+pub all-more : (p : ℕ → Bool) (at : ℕ) {good next : Bool} → good ≡ all p 0 at → next ≡ p at → (good && next) ≡ all p 0 (at + 1)
+unfolding all
+all-more p at e f = ap₂ (λ a b. a && b) e (f ∙ ap p (sym (zero-add at))) ∙ ap (all p 0) (sym (add-one at))
 
 -- From 0 up to n.
 pub each-below : (n : ℕ) (p : ℕ → Bool) → T (all p 0 n) → (i : ℕ) → i < n → T (p i)

@@ -1,0 +1,14 @@
+-- What moving promises of every call with out places, refused calls too: what is returned, and every place that the call may write.
+use mathlib.Core.Path.{_≡_}
+use mathlib.Core.List.{List}
+use Prim.Native.Nat.{ℕ}
+use lib.IntN.{ℤ}
+use lib.ListN.{length}
+use lib.Ieee.{Float}
+use Rattle.definitions.specs.Moving.{moveAnswer, movedArea}
+use Rattle.out_places.specs.OutPlaces.{Refusal}
+
+-- The second area before and after, the places for the row and the column after, and the number returned.
+pub record MoveCall (reading n : ℕ) (sheet : List Float) (k : ℤ) (before after : List Float) (row column returned : ℕ) : Type 0 where
+  pub answer : Refusal (moveAnswer reading n sheet k (length before)) returned row column
+  pub area : after ≡ movedArea reading n sheet k before

@@ -1,0 +1,51 @@
+-- Question 16 by moved limits.
+use mathlib.Core.Path.{_≡_, sym}
+use Prim.Native.Nat.{ℕ, suc-le-suc}
+use mathlib.Core.Bool.{Bool, true, false, true≢false}
+use mathlib.Core.List.{List, map}
+use native.Mathlib.Omega.{arith}
+use lib.Dec.{T, leb, leb→le, ltb→lt}
+use lib.IntN.{ℤ, pos, negsuc}
+use lib.Signed.{ltZ}
+use lib.ListN.{length, getD, List·getD-map}
+use lib.Ieee.{Float, nan, binary64, fits, ofBits}
+use lib.Ieee.Fits.{and-l}
+use Rattle.exact.proofs.Bools.{holds}
+use Rattle.definitions.specs.Numbers.{_⊗_, _⊘_, all}
+use Rattle.definitions.specs.Moving.{exponentInRange, sheetHasRoom}
+use Rattle.rounding.specs.ResultRange.{sizeWithin}
+use Rattle.rounding.proofs.Words.{smallest-word, largest-word}
+use Rattle.rounding.proofs.SizeWithin.{room-down, room-up, least-limit, most-limit}
+use Rattle.steps.proofs.All.{all-below}
+use Rattle.moving.specs.Promises.{Movable}
+
+pub product-at : (power : Float) (sheet : List Float) (at : ℕ) (other : Float) → getD sheet at other ⊗ power ≡ getD (map (λ number. number ⊗ power) sheet) at (other ⊗ power)
+product-at power sheet at other = sym (List·getD-map (λ number. number ⊗ power) sheet at other)
+
+-- ---- the test with moved limits is question 16
+-- The literals of the limits, as the program has them.
+abbrev least·word : Float
+least·word = ofBits binary64 4503599627370496
+
+abbrev most·word : Float
+most·word = ofBits binary64 9218868437227405311
+
+module _ (sheet : List Float) where
+  abbrev tests : Float → Float → Bool
+  tests least most = all (λ at. sizeWithin least most (getD sheet at nan)) 0 (length sheet)
+
+  -- where k is below zero, and where it is not
+  pub by-least : (k : ℤ) {factor : Float} → Movable k factor sheet → ((at : ℕ) → T (fits binary64 (getD sheet at nan))) → ltZ k (pos 0) ≡ true
+      → tests (least·word ⊘ factor) most·word ≡ sheetHasRoom k sheet
+  unfolding exponentInRange sheetHasRoom
+  by-least (pos n) known held t = absurd (let l = ltb→lt n 0 (holds t) in omega arith)
+  by-least (negsuc j) known held t =
+      let small = suc-le-suc (leb→le j 511 (and-l (leb j 511) true (known .inRange))) in
+      rw (known .is, smallest-word, least-limit j small, largest-word) (all-below _ _ (λ at l. room-down j (getD sheet at nan) (known .finites at l) (held at)))
+
+  pub by-most : (k : ℤ) {factor : Float} → Movable k factor sheet → ltZ k (pos 0) ≡ false → tests least·word (most·word ⊘ factor) ≡ sheetHasRoom k sheet
+  unfolding exponentInRange sheetHasRoom
+  by-most (negsuc j) known t = absurd (true≢false t)
+  by-most (pos j) known t =
+      rw (known .is, largest-word, most-limit j (leb→le j 512 (known .inRange)), smallest-word)
+      (all-below _ _ (λ at l. room-up j (getD sheet at nan) (known .finites at l) (known .larges at l)))

@@ -1,0 +1,26 @@
+-- What moving a sheet promises (document 02, U4), and what its numbers are known to be before question 16.
+use mathlib.Core.List.{List}
+use mathlib.Core.Path.{_≡_}
+use Prim.Native.Nat.{ℕ, _<_}
+use lib.Dec.{T}
+use lib.IntN.{ℤ}
+use lib.ListN.{length, getD}
+use lib.Ieee.{Float, nan}
+use Rattle.definitions.specs.Numbers.{finite}
+use Rattle.definitions.specs.Questions.{largeEnough}
+use Rattle.definitions.specs.Moving.{exponentInRange, moveAnswer, movedArea}
+use Rattle.rounding.specs.Scaling.{power}
+use Rattle.answers.specs.declared.Moved.{Moved}
+use Rattle.answers.specs.Answers.{movedGiven}
+
+-- The answer r, and each place of the second area before and after.
+pub record MoveDone (reading n : ℕ) (sheet : List Float) (k : ℤ) (before after : List Float) (r : Moved) : Type 0 where
+  pub answered : movedGiven r ≡ moveAnswer reading n sheet k (length before)
+  pub area : after ≡ movedArea reading n sheet k before
+
+-- k is in range and `factor` is 2^k; questions 6 and 8 passed.
+pub record Movable (k : ℤ) (factor : Float) (sheet : List Float) : Type 0 where
+  pub inRange : T (exponentInRange k)
+  pub is : factor ≡ power k
+  pub finites : (at : ℕ) → at < length sheet → T (finite (getD sheet at nan))
+  pub larges : (at : ℕ) → at < length sheet → T (largeEnough (getD sheet at nan))

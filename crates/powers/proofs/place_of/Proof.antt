@@ -1,0 +1,12 @@
+-- `powers::place_of` meets its contract. Assumes nothing.
+use Rattle.powers.proofs.Powers.{sum-fits, sum-casts, cast-is}
+use Rattle.powers.proofs.place_of.Statement.{statement}
+use Rattle.powers.proofs.place_of.Tie as tie
+
+pub place-of-spec : {M : Type 1} → statement M
+place-of-spec =
+    tie.close
+    (tie.spec
+    (λ c. sum-fits (c .args .k) (c .fits .k) (c .pre))
+    (λ c. sum-casts (c .args .k) (c .fits .k) (c .pre))
+    (λ c. cast-is (c .args .k) (c .fits .k) (c .pre)))
