@@ -26,7 +26,7 @@ exponentInRange k = leZ (negsuc 511) k && leZ k (pos 512)
 unfoldable pub question15 : ℤ → Asked
 question15 k = ask (exponentInRange k) 15 0 0
 
--- 16: "a nonzero result whose size is above the largest finite number or below 2^-1022", asked of the exact product.
+-- 16: "a nonzero result whose size is above the largest finite number or below 2^-1022", asked of the exact product of every number.
 unfoldable pub hasRoom : Float → Bool
 hasRoom number = largeEnough number && (le number largest && le (neg largest) number)
 
@@ -36,7 +36,7 @@ sheetHasRoom k sheet = all (λ at. hasRoom (timesPower k (getD sheet at nan))) 0
 unfoldable pub question16 : ℤ → List Float → Asked
 question16 k sheet = ask (sheetHasRoom k sheet) 16 0 0
 
--- "Questions 1 to 4, 6, 7 and 8 first"; `room` is the length of the second area.
+-- "Questions 1 to 4, 6, 7 and 8 first", then 15 and 16; `room` is the length of the second area.
 unfoldable pub moveInput : ℕ → ℕ → List Float → ℕ → Asked
 moveInput reading n sheet room =
     question1 reading then question2 n then question3 n (length sheet) then question4 (n * n) room then placeQuestions reading n sheet

@@ -1,13 +1,13 @@
 -- The test of a number's size: what it says of the digits, and that it may be asked of x with other limits in the place of x·2^k.
-use mathlib.Core.Path.{_≡_, sym, ap, ap₂, _∙_}
+use mathlib.Core.Path.{_≡_, sym, ap, ap₂, _∙_, subst}
 use Prim.Native.Nat.{ℕ, zero, suc, _+_, _-_, _*_, _^_, _≤_, _<_}
 use mathlib.Core.Logic.{_⊎_, inl, inr, ⊎-elim}
 use native.Mathlib.Nat.{le-trans, le-of-eq, lt-irrefl, lt-of-not-le, lt-of-le-of-lt, lt-of-lt-of-le, lt-of-mul-lt-mul-right, mul-lt-mul-of-pos-right, one-mul, mul-one, mul-assoc, mul-pos, mul-le-mul, mul-le-mul-right, le-mul-of-pos-right, eq-zero-or-pos, zero-lt-suc}
 use native.Mathlib.Omega.{arith}
-use mathlib.Core.Bool.{Bool, true, false, not, _&&_, _||_, cond, and-true, or-false, or-assoc}
-use lib.IntN.{ℤ, pos, negsuc, negℤ, _+ℤ_}
-use lib.Dec.{T, leb, ltb, eqb, leb→le, le→leb, nleb→lt, ltb→lt, lt→ltb, eqb→eq, lit<, lit≤}
-use lib.Pow.{pow-add, pow-pos, pow-mono, pow-lt, le-ones}
+use mathlib.Core.Bool.{Bool, true, false, not, _&&_, _||_, and-true, or-false, or-assoc}
+use lib.IntN.{ℤ, pos, negsuc, negℤ, _+ℤ_, _-ℤ_, +ℤ-assoc, +ℤ-idl, +ℤ-negℤ-cancel}
+use lib.Dec.{T, leb, ltb, eqb, leb→le, le→leb, nleb→lt, lt→ltb, eqb→eq, lit<}
+use lib.Pow.{pow-add, pow-pos, pow-mono, le-ones}
 use lib.Ieee.{Float, nan, inf, fin, binary64, up, down, lt, eq, le, neg, fits}
 use lib.Ieee.Fits.{up-pos, down-pos, and-i, and-l, and-r, eq→eqb}
 use lib.Ieee.Bits.{is-true}
@@ -21,7 +21,7 @@ use Rattle.rounding.specs.ResultRange.{sizeWithin}
 use Rattle.rounding.proofs.Value.{Fit, fit, refit}
 use Rattle.rounding.proofs.Compare.{le-test}
 use Rattle.rounding.proofs.AnyNumbers.{zero-amount}
-use Rattle.rounding.proofs.TimesPower.{Times, times-some, by-times, up-neg, down-neg, shallower, quotient-by-power, times-power-keeps-order, times-is-zero, times-neg, times-back}
+use Rattle.rounding.proofs.TimesPower.{Times, times-up, by-times, up-neg, down-neg, quotient-by-power, times-power-twice, held-between, times-power-keeps-order, times-is-zero, times-neg, times-back}
 
 -- ---- one limit at a time
 abbrev atLeast : Float → Float → Bool
@@ -81,36 +81,36 @@ always a b = is-true (ltb 0 (a + b) || (eqb a b && eqb a 0)) (either (eq-zero-or
     either (inr l) = or-l (ltb 0 (a + b)) (eqb a b && eqb a 0) (lt→ltb 0 (a + b) l)
 
 module _ (a : ℕ) (c : ℤ) (s : Bool) (m : ℕ) (e : ℤ) where
-  abbrev A' : ℕ
-  A' = a * up c * down e
+  abbrev bound : ℕ
+  bound = a * up c * down e
 
-  abbrev B' : ℕ
-  B' = m * up e * down c
+  abbrev own : ℕ
+  own = m * up e * down c
 
-  at-least-size : 0 < a → (le (fin false a c) (fin s m e) || le (fin s m e) (fin true a c)) ≡ leb A' B'
+  at-least-size : 0 < a → (le (fin false a c) (fin s m e) || le (fin s m e) (fin true a c)) ≡ leb bound own
   unfolding le lt eq
   at-least-size A = by-sign s
     where
-      some : 0 < A'
+      some : 0 < bound
       some = mul-pos (mul-pos A (up-pos c)) (down-pos e)
 
-      by-sign : (s : Bool) → (le (fin false a c) (fin s m e) || le (fin s m e) (fin true a c)) ≡ leb A' B'
-      by-sign true = ap₂ (λ (x y : Bool). x || y) (never A' B' (omega (arith, some))) (ap (λ (x : Bool). ltb A' B' || (x && true)) (turned B' A') ∙ le-plus A' B')
-      by-sign false = ap₂ (λ (x y : Bool). x || y) (le-plus A' B') (never B' A' (omega (arith, some))) ∙ or-false (leb A' B')
+      by-sign : (s : Bool) → (le (fin false a c) (fin s m e) || le (fin s m e) (fin true a c)) ≡ leb bound own
+      by-sign true = ap₂ (λ (x y : Bool). x || y) (never bound own (omega (arith, some))) (ap (λ (x : Bool). ltb bound own || (x && true)) (turned own bound) ∙ le-plus bound own)
+      by-sign false = ap₂ (λ (x y : Bool). x || y) (le-plus bound own) (never own bound (omega (arith, some))) ∙ or-false (leb bound own)
 
-  at-most-size : (le (fin s m e) (fin false a c) && le (fin true a c) (fin s m e)) ≡ leb B' A'
+  at-most-size : (le (fin s m e) (fin false a c) && le (fin true a c) (fin s m e)) ≡ leb own bound
   unfolding le lt eq
   at-most-size = by-sign s
     where
-      by-sign : (s : Bool) → (le (fin s m e) (fin false a c) && le (fin true a c) (fin s m e)) ≡ leb B' A'
-      by-sign true = ap₂ (λ (x y : Bool). x && y) (always B' A') (ap (λ (x : Bool). ltb B' A' || (x && true)) (turned A' B') ∙ le-plus B' A')
-      by-sign false = ap₂ (λ (x y : Bool). x && y) (le-plus B' A') (always A' B') ∙ and-true (leb B' A')
+      by-sign : (s : Bool) → (le (fin s m e) (fin false a c) && le (fin true a c) (fin s m e)) ≡ leb own bound
+      by-sign true = ap₂ (λ (x y : Bool). x && y) (always own bound) (ap (λ (x : Bool). ltb own bound || (x && true)) (turned bound own) ∙ le-plus own bound)
+      by-sign false = ap₂ (λ (x y : Bool). x && y) (le-plus own bound) (always bound own) ∙ and-true (leb own bound)
 
-  at-least-is : 0 < a → atLeast (fin false a c) (fin s m e) ≡ (isZero (fin s m e) || leb A' B')
+  at-least-is : 0 < a → atLeast (fin false a c) (fin s m e) ≡ (isZero (fin s m e) || leb bound own)
   unfolding neg
   at-least-is A = or-assoc (isZero (fin s m e)) (le (fin false a c) (fin s m e)) (le (fin s m e) (fin true a c)) ∙ ap (λ (b : Bool). isZero (fin s m e) || b) (at-least-size A)
 
-  at-most-is : atMost (fin false a c) (fin s m e) ≡ leb B' A'
+  at-most-is : atMost (fin false a c) (fin s m e) ≡ leb own bound
   unfolding neg
   at-most-is = at-most-size
 
@@ -134,18 +134,11 @@ module _ (a : ℕ) (c : ℤ) (a' : ℕ) (c' : ℤ) (less : a' * up c' * down c �
       (leb→le (m * up e * down c') (a' * up c' * down e) (rw (at-most-is a' c' s m e) at t)) less))
 
 -- ---- a limit times 2^-k is weaker the one way, and the other way round
-module _ (j m : ℕ) (e : ℤ) (m' : ℕ) (e' : ℤ) where
-  times-up : Times (pos j) m e m' e' → m * up e * down e' ≤ m' * up e' * down e
-  times-up p = grown (m * up e) (down e') (m' * up e') (down e) (2 ^ j) (pow-pos j) p
-    where
-      grown : (x d' x' d k : ℕ) → 0 < k → x' * (d * 1) ≡ x * k * d' → x * d' ≤ x' * d
-      grown x d' x' d k K p = let v = le-mul-of-pos-right (x * d') K in omega arith
-
-  times-down : Times (negℤ (pos j)) m e m' e' → m' * up e' * down e ≤ m * up e * down e'
-  times-down p = shrunk (m * up e) (down e') (m' * up e') (down e) (2 ^ j) (pow-pos j) (rw (up-neg (pos j), down-neg (pos j)) at p)
-    where
-      shrunk : (x d' x' d k : ℕ) → 0 < k → x' * (d * k) ≡ x * 1 * d' → x' * d ≤ x * d'
-      shrunk x d' x' d k K p = let v = le-mul-of-pos-right (x' * d) K in omega arith
+times-down : (j m : ℕ) (e : ℤ) (m' : ℕ) (e' : ℤ) → Times (negℤ (pos j)) m e m' e' → m' * up e' * down e ≤ m * up e * down e'
+times-down j m e m' e' p = shrunk (m * up e) (down e') (m' * up e') (down e) (2 ^ j) (pow-pos j) (rw (up-neg (pos j), down-neg (pos j)) at p)
+  where
+    shrunk : (x d' x' d k : ℕ) → 0 < k → x' * (d * k) ≡ x * 1 * d' → x' * d ≤ x * d'
+    shrunk x d' x' d k K p = let v = le-mul-of-pos-right (x' * d) K in omega arith
 
 -- ---- no number of binary64 is above the largest
 few-digits-under : (m a p j : ℕ) → m < 2 ^ p → m * 2 ^ a < 2 ^ (p + j) → m * 2 ^ a ≤ (2 ^ p - 1) * 2 ^ j
@@ -239,41 +232,22 @@ room-held k (fin s (suc m) e) f t r =
     none : (m u : ℕ) → 0 < u → suc m * u ≡ 0 → ⊥
     none m u U h = let v = mul-pos (zero-lt-suc m) U in omega arith
 
--- ---- the limits as the code finds them: quotients by the power
--- y / d' is x / d times p / q
-quotient-under : (y d' x d p q c : ℕ) → 0 < d → 0 < q → 0 < d' → y * (d * q) ≡ x * p * d' → x * p < c → y < c * d'
-quotient-under y d' x d p q c D Q D' h less =
-    lt-of-le-of-lt (le-mul-of-pos-right y (mul-pos D Q)) (lt-of-le-of-lt (le-of-eq h) (mul-lt-mul-of-pos-right less D'))
-
-least-held : (j : ℕ) → j ≤ 512 → T (fits binary64 (timesPower (pos j) smallest))
-unfolding timesPower fits
-least-held j h =
-    let e' = negsuc 1021 +ℤ pos j in
-    refit binary64 false 0 (negsuc 1021) e' tt (le-trans (shallower (negsuc 1021) j) (pow-mono {i = 1022} {j = 1074} (lit≤ tt)))
-    (quotient-under (1 * up e') (down e') (1 * 1) (2 ^ 1022) (2 ^ j) 1 (2 ^ 1024) (pow-pos 1022) (zero-lt-suc 0) (down-pos e') (times-some (pos j) 1 (negsuc 1021))
-    (lt-of-le-of-lt (le-of-eq (one-mul (2 ^ j))) (pow-lt {i = j} {j = 1024} (lt-of-le-of-lt h (lit< tt)))))
-
-not-below : (j : ℕ) → j ≤ 971 → down (pos 971 +ℤ negℤ (pos j)) ≤ 2 ^ 1074
-not-below zero h = pow-pos 1074
-not-below (suc i) h = either (ltb 971 (suc i)) (λ t. lt-irrefl 971 (lt-of-lt-of-le (ltb→lt 971 (suc i) t) h))
-  where
-    either : (c : Bool) → (T c → ⊥) → down (cond c (negsuc (suc i - suc 971)) (pos (971 - suc i))) ≤ 2 ^ 1074
-    either true never = absurd (never tt)
-    either false never = pow-pos 1074
-
-most-held : (j : ℕ) → j ≤ 512 → T (fits binary64 (timesPower (negℤ (pos j)) largest))
-unfolding timesPower fits
-most-held j h =
-    let k = negℤ (pos j) in
-    let e' = pos 971 +ℤ k in
-    refit binary64 false 9007199254740990 (pos 971) e' tt (not-below j (le-trans h (lit≤ tt)))
-    (quotient-under (9007199254740991 * up e') (down e') (9007199254740991 * 2 ^ 971) 1 (up k) (down k) (2 ^ 1024) (zero-lt-suc 0) (down-pos k) (down-pos e') (times-some k 9007199254740991 (pos 971))
-    (rw (up-neg (pos j)) (lit< tt)))
-
+-- ---- the limits as the code finds them: quotients by the power, both within 2^512 of a number
 pub least-limit : (j : ℕ) → suc j ≤ 512 → smallest ⊘ power (negsuc j) ≡ timesPower (pos (suc j)) smallest
-unfolding finite
-least-limit j h = quotient-by-power (negsuc j) smallest tt (least-held (suc j) h)
+unfolding finite timesPower fits
+least-limit j h = quotient-by-power (negsuc j) smallest tt (held-between smallest (suc j) 512 h tt tt)
+
+-- 2^-j is 2^-512 times 2^(512 - j).
+raised : (j : ℕ) → j ≤ 512 → negsuc 511 +ℤ pos (512 - j) ≡ negℤ (pos j)
+raised j h =
+    let z = negsuc 511 +ℤ pos (512 - j) in
+    let whole : 512 - j + j ≡ 512 = omega arith in
+    let sum : z +ℤ pos j ≡ pos 0 = +ℤ-assoc (negsuc 511) (pos (512 - j)) (pos j) ∙ ap (λ (n : ℕ). negsuc 511 +ℤ pos n) whole in
+    sym (+ℤ-negℤ-cancel z (pos j)) ∙ ap (λ (y : ℤ). y -ℤ pos j) sum ∙ +ℤ-idl (negℤ (pos j))
 
 pub most-limit : (j : ℕ) → j ≤ 512 → largest ⊘ power (pos j) ≡ timesPower (negℤ (pos j)) largest
-unfolding finite
-most-limit j h = quotient-by-power (pos j) largest tt (most-held j h)
+unfolding finite timesPower fits
+most-limit j h =
+    let low = timesPower (negsuc 511) largest in
+    let same : timesPower (pos (512 - j)) low ≡ timesPower (negℤ (pos j)) largest = times-power-twice (negsuc 511) (pos (512 - j)) largest ∙ ap (λ (z : ℤ). timesPower z largest) (raised j h) in
+    quotient-by-power (pos j) largest tt (subst (λ (y : Float). T (fits binary64 y)) same (held-between low (512 - j) 512 (omega arith) tt tt))

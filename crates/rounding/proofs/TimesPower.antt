@@ -2,7 +2,7 @@
 -- power and a quotient by one come to wherever binary64 holds it, and keeps the order.
 use mathlib.Core.Path.{_≡_, refl, sym, ap, ap₂, _∙_}
 use Prim.Native.Nat.{ℕ, zero, suc, _+_, _-_, _*_, _%_, _^_, _≤_, _<_}
-use native.Mathlib.Nat.{le-refl, le-of-eq, le-of-suc-le-suc, lt-of-not-le, mul-mod-left, lt-of-le-of-lt, lt-of-lt-of-le, mul-lt-mul-of-pos-right, lt-of-mul-lt-mul-right, mul-assoc, mul-comm, mul-one, one-mul, zero-mul, mul-pos, add-mul, eq-of-mul-eq-mul-right, zero-lt-suc}
+use native.Mathlib.Nat.{le-refl, le-trans, le-mul-of-pos-right, le-of-eq, le-of-suc-le-suc, lt-of-not-le, mul-mod-left, lt-of-le-of-lt, lt-of-lt-of-le, mul-lt-mul-of-pos-right, lt-of-mul-lt-mul-right, mul-assoc, mul-comm, mul-one, one-mul, zero-mul, mul-pos, add-mul, eq-of-mul-eq-mul-right, zero-lt-suc}
 use native.Mathlib.Omega.{arith}
 use mathlib.Core.Bool.{Bool, true, false, not, _&&_, _||_, cond, Bool·beq}
 use lib.IntN.{ℤ, pos, negsuc, negℤ, subℕ, _+ℤ_, +ℤ-assoc, +ℤ-idr, +ℤ-invl}
@@ -14,7 +14,7 @@ use Rattle.definitions.specs.Numbers.{_⊗_, _⊘_, 0·0, finite, isZero, units
 use Rattle.definitions.specs.Moving.{timesPower}
 use Rattle.rounding.specs.Good.{Good}
 use Rattle.rounding.specs.Scaling.{Scaled, power, negative, TimesByValue, TimesPowerByValue, ProductWithPower, QuotientByPower, TimesPowerTwice, TimesPowerKeepsOrder, TimesPowerScales, ScaledIsTimesPower}
-use Rattle.rounding.proofs.Value.{amount, amount-of-value, odd-digits, refit, by-parts, held-value, held-lt, held-unique}
+use Rattle.rounding.proofs.Value.{amount, amount-of-value, fit, tests, refit, by-parts, held-value, held-lt, held-unique}
 use Rattle.rounding.proofs.Round.{round-held}
 use Rattle.rounding.proofs.Laws.{units-is, good-finite}
 use Rattle.rounding.proofs.Compare.{ltb-scale, eqb-scale}
@@ -187,7 +187,7 @@ product-held k s (suc m) e g r n d v = refit binary64 s m e (e +ℤ k) g (deep (
     deep : (e' : ℤ) → suc m * up e' * 2 ^ low binary64 ≡ amount binary64 (fin r n d) * down e' → down e' ≤ 2 ^ low binary64
     deep (pos a) h = pow-pos (low binary64)
     deep (negsuc j) h =
-        pow-mono (odd-deep (suc m) (suc j) (amount binary64 (fin r n d)) (low binary64) (odd-digits binary64 s m e g) (ap (λ (x : ℕ). x * 2 ^ low binary64) (sym (mul-one (suc m))) ∙ h))
+        pow-mono (odd-deep (suc m) (suc j) (amount binary64 (fin r n d)) (low binary64) (tests binary64 s m e g .odd) (ap (λ (x : ℕ). x * 2 ^ low binary64) (sym (mul-one (suc m))) ∙ h))
 
     below : (y l u d c : ℕ) → 0 < d → y * l ≡ u * d → u < l * c → y < c * d
     below y l u d c D h less =
@@ -343,6 +343,38 @@ scaled-is-times-power k x x' s =
       sign = good-plus x' (s .to) ∙ sym (good-plus x (s .from));
       size = mul-one (units x') ∙ s .by;
     }
+
+-- ---- between two numbers of binary64: x and x·2^l
+pub times-up : (j m : ℕ) (e : ℤ) (m' : ℕ) (e' : ℤ) → Times (pos j) m e m' e' → m * up e * down e' ≤ m' * up e' * down e
+times-up j m e m' e' p = grown (m * up e) (down e') (m' * up e') (down e) (2 ^ j) (pow-pos j) p
+  where
+    grown : (x d' x' d k : ℕ) → 0 < k → x' * (d * 1) ≡ x * k * d' → x * d' ≤ x' * d
+    grown x d' x' d k K p = let v = le-mul-of-pos-right (x * d') K in omega arith
+
+-- x / d is at most y / d', which is below c
+below-too : (x d y d' c : ℕ) → 0 < d → x * d' ≤ y * d → y < c * d' → x < c * d
+below-too x d y d' c D h less =
+    lt-of-mul-lt-mul-right d' (lt-of-le-of-lt h (lt-of-lt-of-le (mul-lt-mul-of-pos-right less D) (le-of-eq (regroup c d' d))))
+  where
+    regroup : (c d' d : ℕ) → c * d' * d ≡ c * d * d'
+    regroup c d' d = omega arith
+
+held-below : (i j : ℕ) (x : Float) → T (fits binary64 x) → T (fits binary64 (timesPower (pos i) (timesPower (pos j) x))) → T (fits binary64 (timesPower (pos j) x))
+unfolding timesPower
+held-below i j nan g t = g
+held-below i j (inf s) g t = g
+held-below i j (fin s zero e) g t = g
+held-below i j (fin s (suc m) e) g t =
+    let e' = e +ℤ pos j in
+    let e'' = e' +ℤ pos i in
+    refit binary64 s m e e' g (le-trans (shallower e j) (fit binary64 s (suc m) e g .deep))
+    (below-too (suc m * up e') (down e') (suc m * up e'') (down e'') (2 ^ 1024) (down-pos e')
+    (times-up i (suc m) e' (suc m) e'' (times-some (pos i) (suc m) e')) (fit binary64 s (suc m) e'' t .under))
+
+pub held-between : (x : Float) (j l : ℕ) → j ≤ l → T (fits binary64 x) → T (fits binary64 (timesPower (pos l) x)) → T (fits binary64 (timesPower (pos j) x))
+held-between x j l h g t =
+    let whole : j + (l - j) ≡ l = omega arith in
+    held-below (l - j) j x g (rw (times-power-twice (pos j) (pos (l - j)) x, whole) t)
 
 -- ---- sizes: a sheet's rates are negative, and a zero of either sign counts as plus zero
 -- The size of a moved number is the moved size.

@@ -7,7 +7,7 @@ use lib.IntN.{ℤ, pos, negsuc}
 use lib.Dec.{T, leb, ltb, eqb, leb→le, le→leb, ltb→lt, lt→ltb, eqb→eq}
 use lib.Pow.{pow-add, pow-pos, pow-lt}
 use lib.Ieee.{Float, nan, inf, fin, Format, prec, emax, low, up, down, size, fits, hid, top, toBits, ofBits}
-use lib.Ieee.Fits.{and-i, and-l, and-r, up-pos, down-pos}
+use lib.Ieee.Fits.{and-i, and-l, and-r, eq→eqb, up-pos, down-pos}
 use lib.Ieee.Exact.{HasValue}
 use lib.Ieee.Bits.{ofBits-toBits}
 use Rattle.rounding.specs.Good.{GoodIn}
@@ -35,6 +35,29 @@ pub record Fit (f : Format) (m : ℕ) (e : ℤ) : Type 0 where
   pub deep : down e ≤ 2 ^ low f
   pub under : m * up e < 2 ^ suc (emax f) * down e
 
+-- And all that they say of a number that is not zero.
+pub record Tests (f : Format) (m : ℕ) (e : ℤ) : Type 0 where
+  pub odd : suc m % 2 ≡ 1
+  pub fit : Fit f (suc m) e
+
+pub tests : (f : Format) (s : Bool) (m : ℕ) (e : ℤ) → T (fits f (fin s (suc m) e)) → Tests f m e
+unfolding fits
+tests f s m e t =
+    let A = eqb (suc m % 2) 1 in
+    let B = ltb (suc m) (2 ^ prec f) in
+    let C = leb (down e) (2 ^ low f) in
+    let D = ltb (suc m * up e) (2 ^ suc (emax f) * down e) in
+    let AB = and-l (A && B) C (and-l (A && B && C) D t) in
+    record {
+      odd = eqb→eq (suc m % 2) 1 (and-l A B AB);
+      fit =
+          record {
+            few = ltb→lt (suc m) (2 ^ prec f) (and-r A B AB);
+            deep = leb→le (down e) (2 ^ low f) (and-r (A && B) C (and-l (A && B && C) D t));
+            under = ltb→lt (suc m * up e) (2 ^ suc (emax f) * down e) (and-r (A && B && C) D t);
+          };
+    }
+
 pub fit : (f : Format) (s : Bool) (m : ℕ) (e : ℤ) → T (fits f (fin s m e)) → Fit f m e
 unfolding fits
 fit f s zero e t =
@@ -43,37 +66,19 @@ fit f s zero e t =
       deep = le-trans (one-le (up e) (down e) (up-pos e) (eqb→eq (up e * down e) 1 t)) (pow-pos (low f));
       under = rw zero-mul (mul-pos (pow-pos (suc (emax f))) (down-pos e));
     }
-fit f s (suc m) e t =
-    let A = eqb (suc m % 2) 1 in
-    let B = ltb (suc m) (2 ^ prec f) in
-    let C = leb (down e) (2 ^ low f) in
-    let D = ltb (suc m * up e) (2 ^ suc (emax f) * down e) in
-    record {
-      few = ltb→lt (suc m) (2 ^ prec f) (and-r A B (and-l (A && B) C (and-l (A && B && C) D t)));
-      deep = leb→le (down e) (2 ^ low f) (and-r (A && B) C (and-l (A && B && C) D t));
-      under = ltb→lt (suc m * up e) (2 ^ suc (emax f) * down e) (and-r (A && B && C) D t);
-    }
-
-pub odd-digits : (f : Format) (s : Bool) (m : ℕ) (e : ℤ) → T (fits f (fin s (suc m) e)) → suc m % 2 ≡ 1
-unfolding fits
-odd-digits f s m e t =
-    let A = eqb (suc m % 2) 1 in
-    let B = ltb (suc m) (2 ^ prec f) in
-    let C = leb (down e) (2 ^ low f) in
-    let D = ltb (suc m * up e) (2 ^ suc (emax f) * down e) in
-    eqb→eq (suc m % 2) 1 (and-l A B (and-l (A && B) C (and-l (A && B && C) D t)))
+fit f s (suc m) e t = tests f s m e t .fit
 
 -- The same digits under another exponent.
-pub refit : (f : Format) (s : Bool) (m : ℕ) (e e' : ℤ) → T (fits f (fin s (suc m) e)) → down e' ≤ 2 ^ low f → suc m * up e' < 2 ^ suc (emax f) * down e' → T (fits f (fin s (suc m) e'))
+pub refit : (f : Format) (s : Bool) (m : ℕ) (e e' : ℤ) → T (fits f (fin s (suc m) e)) → down e' ≤ 2 ^ low f → suc m * up e' < 2 ^ suc (emax f) * down e'
+    → T (fits f (fin s (suc m) e'))
 unfolding fits
 refit f s m e e' t deep under =
+    let known = tests f s m e t in
     let A = eqb (suc m % 2) 1 in
     let B = ltb (suc m) (2 ^ prec f) in
-    let C = leb (down e) (2 ^ low f) in
-    let D = ltb (suc m * up e) (2 ^ suc (emax f) * down e) in
-    let C' = leb (down e') (2 ^ low f) in
-    and-i (A && B && C') (ltb (suc m * up e') (2 ^ suc (emax f) * down e'))
-    (and-i (A && B) C' (and-l (A && B) C (and-l (A && B && C) D t)) (le→leb (down e') (2 ^ low f) deep))
+    let C = leb (down e') (2 ^ low f) in
+    and-i (A && B && C) (ltb (suc m * up e') (2 ^ suc (emax f) * down e'))
+    (and-i (A && B) C (and-i A B (eq→eqb (known .odd)) (lt→ltb (suc m) (2 ^ prec f) (known .fit .few))) (le→leb (down e') (2 ^ low f) deep))
     (lt→ltb (suc m * up e') (2 ^ suc (emax f) * down e') under)
 
 -- ---- a number that fits is q * 2 ^ j smallest values
