@@ -55,7 +55,7 @@ def lowest_accepted(n: int, sheet: Sheet) -> int:
     accepted, refused = -900, -1100
     while accepted - refused > 1:
         middle = (accepted + refused) // 2
-        if isinstance(reference.table(1, n, scaled(sheet, middle), n * n), reference.Table):
+        if isinstance(reference.table(1, n, reference.IN_SECONDS, scaled(sheet, middle), n * n), reference.Table):
             accepted = middle
         else:
             refused = middle

@@ -18,6 +18,7 @@
 
 enum { LIMIT = 32, MOST = LIMIT * LIMIT, WORKSPACE = 64 * LIMIT, MOST_GROUPS = 256, MOST_CANDIDATES = 16 };
 enum { TURN = 10 };                           /* batches of a group before the next group has its turn */
+enum { IN_SECONDS = 0 };                      /* the e of every sheet: no answer depends on it */
 static const double shortest_batch = 20000.0; /* nanoseconds: long beside what a look at the clock costs */
 
 struct group {
@@ -48,54 +49,65 @@ static const double *sheet_of(const struct group *g, size_t at)
 static size_t proved(const struct group *g, size_t at, double *answer)
 {
     size_t allowance, row, column, places = g->n * g->n;
-    return yulanbowls_table(g->reading, g->n, sheet_of(g, at), places, answer, places, &allowance, &row, &column);
+    return yulanbowls_table(g->reading, g->n, IN_SECONDS, sheet_of(g, at), places, answer, places, &allowance, &row,
+                            &column);
 }
 
 static size_t proved_column(const struct group *g, size_t at, double *answer)
 {
     size_t allowance, row, column;
-    return yulanbowls_column(g->reading, g->n, sheet_of(g, at), g->n * g->n, (size_t)g->asked[at], answer, g->n,
-                             &allowance, &row, &column);
+    return yulanbowls_column(g->reading, g->n, IN_SECONDS, sheet_of(g, at), g->n * g->n, (size_t)g->asked[at], answer,
+                             g->n, &allowance, &row, &column);
 }
 
 static size_t proved_move(const struct group *g, size_t at, double *answer)
 {
     size_t row, column, places = g->n * g->n;
-    return yulanbowls_move(g->reading, g->n, sheet_of(g, at), places, g->asked[at], answer, places, &row, &column);
+    int64_t moved_e;
+    return yulanbowls_move(g->reading, g->n, IN_SECONDS, sheet_of(g, at), places, g->asked[at], answer, places,
+                           &moved_e, &row, &column);
 }
 
+/* The library of another commit, under another name. One from before units has no parameters for them. */
+#ifdef BEFORE_UNITS
+#define UNIT(parameter)
+#else
+#define UNIT(parameter) parameter,
+#endif
+
 #ifdef OTHER
-/* The library of another commit, under another name. */
-size_t other_table(size_t reading, size_t n, const double *sheet, size_t sheet_len, double *answer, size_t answer_len,
-                   size_t *allowance, size_t *row, size_t *column);
+size_t other_table(size_t reading, size_t n, UNIT(int64_t e) const double *sheet, size_t sheet_len, double *answer,
+                   size_t answer_len, size_t *allowance, size_t *row, size_t *column);
 
 static size_t other(const struct group *g, size_t at, double *answer)
 {
     size_t allowance, row, column, places = g->n * g->n;
-    return other_table(g->reading, g->n, sheet_of(g, at), places, answer, places, &allowance, &row, &column);
+    return other_table(g->reading, g->n, UNIT(IN_SECONDS) sheet_of(g, at), places, answer, places, &allowance, &row,
+                       &column);
 }
 #endif
 
 #ifdef OTHER_COLUMN
-size_t other_column(size_t reading, size_t n, const double *sheet, size_t sheet_len, size_t stage, double *answer,
-                    size_t answer_len, size_t *allowance, size_t *row, size_t *column);
+size_t other_column(size_t reading, size_t n, UNIT(int64_t e) const double *sheet, size_t sheet_len, size_t stage,
+                    double *answer, size_t answer_len, size_t *allowance, size_t *row, size_t *column);
 
 static size_t other_one(const struct group *g, size_t at, double *answer)
 {
     size_t allowance, row, column;
-    return other_column(g->reading, g->n, sheet_of(g, at), g->n * g->n, (size_t)g->asked[at], answer, g->n, &allowance,
-                        &row, &column);
+    return other_column(g->reading, g->n, UNIT(IN_SECONDS) sheet_of(g, at), g->n * g->n, (size_t)g->asked[at], answer,
+                        g->n, &allowance, &row, &column);
 }
 #endif
 
 #ifdef OTHER_MOVE
-size_t other_move(size_t reading, size_t n, const double *sheet, size_t sheet_len, int64_t k, double *area,
-                  size_t area_len, size_t *row, size_t *column);
+size_t other_move(size_t reading, size_t n, UNIT(int64_t e) const double *sheet, size_t sheet_len, int64_t k,
+                  double *area, size_t area_len, UNIT(int64_t *moved_e) size_t *row, size_t *column);
 
 static size_t other_moved(const struct group *g, size_t at, double *answer)
 {
     size_t row, column, places = g->n * g->n;
-    return other_move(g->reading, g->n, sheet_of(g, at), places, g->asked[at], answer, places, &row, &column);
+    return other_move(g->reading, g->n, UNIT(IN_SECONDS) sheet_of(g, at), places, g->asked[at], answer, places,
+                      UNIT(&(int64_t){0}) &row, &column);
 }
 #endif
 

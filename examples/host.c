@@ -1,20 +1,28 @@
 /*
  * Prints the table of a sheet file by the proved library: host FILE, or host < FILE. With host FILE COPY the
  * sheet that was loaded is saved as COPY too. With host FILE COPY K it is moved to another time unit first, every
- * number times 2^K: K = -10 makes rates per second rates per tick, at 1,024 ticks a second.
+ * number times 2^K: K = -10 makes rates per second rates per tick, at 1,024 ticks a second, and the copy says so.
  *
  *   rt staticlib hosts
  *   cc -std=c99 -Wall -Wextra -pedantic -I include examples/host.c target/staticlib/libhosts.a -o target/host
  *   python3 tools/sheet.py make examples/signing.txt | target/host
  *
- * The numbers are printed with 17 digits, which read back as the same numbers. A refusal is printed as its
- * number, row and column, with exit status 1.
+ * The first line says the unit of all times: 2^0 seconds are seconds. The numbers are printed with 17 digits, which
+ * read back as the same numbers. A refusal is printed as its number, row and column, with exit status 1.
  */
 #include <errno.h>
+#include <inttypes.h>
 #include <stdio.h>
 #include <stdlib.h>
 
 #include "yulanbowls.h"
+
+/* A sheet as it was loaded or moved: rates are per unit of 2^e seconds, and times in that unit. */
+struct sheet {
+    size_t reading, n;
+    int64_t e;
+    double numbers[YULANBOWLS_NUMBERS];
+};
 
 /* What a call is refused with. */
 struct refusal {
@@ -27,70 +35,72 @@ static int print_refusal(const struct refusal *no)
     return 1;
 }
 
-static void print_table(size_t n, const double *table, size_t allowance)
+static void print_table(const struct sheet *s, const double *table, size_t allowance)
 {
-    for (size_t i = 0; i < n; i++) {
-        for (size_t j = 0; j < n; j++) {
-            printf("%s%.17g", j == 0 ? "" : " ", table[i * n + j]);
+    printf("times in units of 2^%" PRId64 " seconds\n", s->e);
+    for (size_t i = 0; i < s->n; i++) {
+        for (size_t j = 0; j < s->n; j++) {
+            printf("%s%.17g", j == 0 ? "" : " ", table[i * s->n + j]);
         }
         printf("\n");
     }
     printf("each within a factor (1 + 2^-53)^%zu of the exact number\n", allowance);
 }
 
-/* The seconds at the last stage of a request that enters at the first. */
-static int print_last(size_t reading, size_t n, const double *sheet)
+/* The time at the last stage of a request that enters at the first. */
+static int print_last(const struct sheet *s)
 {
-    double seconds;
+    double time;
     struct refusal no;
 
-    no.number = yulanbowls_entry(reading, n, sheet, n * n, 1, n, &seconds, &no.row, &no.column);
+    no.number = yulanbowls_entry(s->reading, s->n, s->e, s->numbers, s->n * s->n, 1, s->n, &time, &no.row,
+                                 &no.column);
     if (no.number != 0) {
         return print_refusal(&no);
     }
-    printf("stage 1 to stage %zu: %.17g seconds\n", n, seconds);
+    printf("stage 1 to stage %zu: %.17g\n", s->n, time);
     return 0;
 }
 
-/* The seconds at the last stage from every stage, for a sheet of reading 1: a column of the table by itself. */
-static int print_column(size_t n, const double *sheet)
+/* The times at the last stage from every stage, for a sheet of reading 1: a column of the table by itself. */
+static int print_column(const struct sheet *s)
 {
-    double seconds[YULANBOWLS_STAGES];
+    double times[YULANBOWLS_STAGES];
     size_t allowance;
     struct refusal no;
 
-    no.number = yulanbowls_column(1, n, sheet, n * n, n, seconds, YULANBOWLS_STAGES, &allowance, &no.row,
-                                  &no.column);
+    no.number = yulanbowls_column(s->reading, s->n, s->e, s->numbers, s->n * s->n, s->n, times, YULANBOWLS_STAGES,
+                                  &allowance, &no.row, &no.column);
     if (no.number != 0) {
         return print_refusal(&no);
     }
-    printf("seconds at stage %zu from each stage:", n);
-    for (size_t i = 0; i < n; i++) {
-        printf(" %.17g", seconds[i]);
+    printf("at stage %zu from each stage:", s->n);
+    for (size_t i = 0; i < s->n; i++) {
+        printf(" %.17g", times[i]);
     }
     printf("\n");
     return 0;
 }
 
-static int print_sheet(size_t reading, size_t n, const double *sheet)
+static int print_sheet(const struct sheet *s)
 {
     double table[YULANBOWLS_NUMBERS];
     size_t allowance;
     struct refusal no;
 
-    no.number = yulanbowls_table(reading, n, sheet, n * n, table, YULANBOWLS_NUMBERS, &allowance,
-                                 &no.row, &no.column);
+    no.number = yulanbowls_table(s->reading, s->n, s->e, s->numbers, s->n * s->n, table, YULANBOWLS_NUMBERS,
+                                 &allowance, &no.row, &no.column);
     if (no.number != 0) {
         return print_refusal(&no);
     }
-    print_table(n, table, allowance);
-    if (print_last(reading, n, sheet) != 0) {
+    print_table(s, table, allowance);
+    if (print_last(s) != 0) {
         return 1;
     }
-    return reading == 1 ? print_column(n, sheet) : 0;
+    return s->reading == 1 ? print_column(s) : 0;
 }
 
-static int save_sheet(size_t reading, size_t n, const double *sheet, const char *name)
+static int save_sheet(const struct sheet *s, const char *name)
 {
     uint8_t bytes[YULANBOWLS_FILE_BYTES];
     size_t length;
@@ -98,8 +108,8 @@ static int save_sheet(size_t reading, size_t n, const double *sheet, const char 
     FILE *to;
     int done;
 
-    no.number = yulanbowls_save_numbers(reading, n, sheet, n * n, bytes, sizeof bytes, &length, &no.row,
-                                        &no.column);
+    no.number = yulanbowls_save_numbers(s->reading, s->n, s->e, s->numbers, s->n * s->n, bytes, sizeof bytes, &length,
+                                        &no.row, &no.column);
     if (no.number != 0) {
         return print_refusal(&no);
     }
@@ -115,16 +125,20 @@ static int save_sheet(size_t reading, size_t n, const double *sheet, const char 
     return 0;
 }
 
-static int save_moved(size_t reading, size_t n, const double *sheet, int64_t k, const char *name)
+/* The copy has the unit that the move hands over. */
+static int save_moved(const struct sheet *s, int64_t k, const char *name)
 {
-    double moved[YULANBOWLS_NUMBERS];
+    struct sheet moved;
     struct refusal no;
 
-    no.number = yulanbowls_move(reading, n, sheet, n * n, k, moved, YULANBOWLS_NUMBERS, &no.row, &no.column);
+    moved.reading = s->reading;
+    moved.n = s->n;
+    no.number = yulanbowls_move(s->reading, s->n, s->e, s->numbers, s->n * s->n, k, moved.numbers, YULANBOWLS_NUMBERS,
+                                &moved.e, &no.row, &no.column);
     if (no.number != 0) {
         return print_refusal(&no);
     }
-    return save_sheet(reading, n, moved, name);
+    return save_sheet(&moved, name);
 }
 
 /* One byte more than the longest file is read, so that a longer one is noticed. Without a k the copy is the sheet
@@ -132,8 +146,7 @@ static int save_moved(size_t reading, size_t n, const double *sheet, int64_t k, 
 static int print_file(FILE *from, const char *copy, const int64_t *k)
 {
     uint8_t bytes[YULANBOWLS_FILE_BYTES + 1];
-    double sheet[YULANBOWLS_NUMBERS];
-    size_t reading, n;
+    struct sheet s;
     struct refusal no;
     size_t length = fread(bytes, 1, sizeof bytes, from);
     int status = 0;
@@ -142,15 +155,15 @@ static int print_file(FILE *from, const char *copy, const int64_t *k)
         perror("host");
         return 2;
     }
-    no.number = yulanbowls_read_numbers(bytes, length, sheet, YULANBOWLS_NUMBERS, &reading, &n, &no.row,
+    no.number = yulanbowls_read_numbers(bytes, length, s.numbers, YULANBOWLS_NUMBERS, &s.reading, &s.n, &s.e, &no.row,
                                         &no.column);
     if (no.number != 0) {
         return print_refusal(&no);
     }
     if (copy != NULL) {
-        status = k == NULL ? save_sheet(reading, n, sheet, copy) : save_moved(reading, n, sheet, *k, copy);
+        status = k == NULL ? save_sheet(&s, copy) : save_moved(&s, *k, copy);
     }
-    return status != 0 ? status : print_sheet(reading, n, sheet);
+    return status != 0 ? status : print_sheet(&s);
 }
 
 /* Whether the text is a whole number of 64 bits, and that number. The library judges its range. */

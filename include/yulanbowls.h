@@ -5,10 +5,14 @@
  * crates/table_calls/specs/, crates/file_calls/specs/ and crates/move_calls/specs/.
  *
  * The sheet
- *   n stages, 1 to 32, and n * n numbers, row by row, so at most 1,024. Off the diagonal, place (i, j)
- *   holds minus the rate per second of moving from stage i to stage j. The diagonal place of stage i holds
+ *   n stages, 1 to 32, a time unit of 2^e seconds, e from -512 to 512, and n * n numbers, row by row, so at most
+ *   1,024. Off the diagonal, place (i, j) holds minus the rate of moving from stage i to stage j. The diagonal
+ *   place of stage i holds
  *     reading 1: the rate at which requests leave for good, zero or above;
  *     reading 2: the margin of row i, above zero.
+ *   Rates and margins are per unit: with e = 0 per second, with e = -10 per tick of a clock that ticks 1,024 times
+ *   a second. Times are in the same unit. So e says what the numbers mean and changes none of them: for every e in
+ *   its range a table, a column or an entry has the same bits.
  *   Stages, rows and columns are numbered from 1. In reading 1 a stage whose row and column are all zero, the
  *   diagonal place included, is idle. Idle stages keep their numbers and n counts them, but the computation
  *   leaves them out. A zero of either sign is a zero.
@@ -17,15 +21,16 @@
  *   Every call but yulanbowls_report returns 0 if it is accepted, and else the number of its refusal. `*row`
  *   and `*column` are then those of the refusal, 0 and 0 where it has none and where the call is accepted. A
  *   refused call changes nothing else: every other out place and every place of a lent area keep what they
- *   held. The reasons are looked for in the order of their numbers, each in the whole sheet before the next,
- *   but in a file 11 to 13 record by record, then 14 and then 4. The first decides.
+ *   held. The reasons that a call can be refused for are looked for in this order, each in the whole sheet before
+ *   the next: 1, 2, 12, then 3 to 10, then 15, 17, 16. In a file 11 to 13 are looked for record by record, then
+ *   14 and then 4. The first decides.
  *
  *   number  the call is refused because                                          row, column
  *        1  the reading is neither 1 nor 2, or, for a column, is not 1            0, 0
  *        2  n is below 1 or above 32                                              0, 0
  *        3  the sheet has more or fewer than n * n numbers                        0, 0
  *        4  the area has room for fewer than n * n numbers, or, for a column,     0, 0
- *           for fewer than n, or, in saving, for fewer than 10 + n * (8n + 8)
+ *           for fewer than n, or, in saving, for fewer than 12 + n * (8n + 8)
  *           bytes
  *        5  a stage that is asked for is below 1 or above n                       0, 0
  *        6  a number is an infinity or a NaN                                      of the first such number
@@ -38,17 +43,18 @@
  *           is not finite, or a product or quotient of numbers that are not
  *           zero is not above 2^-1022
  *       11  the file ends inside a record                                         of the row due (head: 0), 0
- *       12  the file's first record is no head with reading 1 or 2 and            0, 0
- *           1 to 32 stages
+ *       12  e is below -512 or above 512, or the file's first record is no        0, 0
+ *           head with reading 1 or 2, 1 to 32 stages and such an e
  *       13  a record is not the row that is due, of n numbers                     of the row due, 0
  *       14  bytes follow the last row                                             0, 0
  *       15  k is below -512 or above 512                                          0, 0
  *       16  the exact product of 2^k and a number that is not zero is larger      0, 0
  *           in size than the largest finite number, or smaller than 2^-1022
+ *       17  e + k is below -512 or above 512                                      0, 0
  *
- *   yulanbowls_table can return 1 to 4 and 6 to 10, yulanbowls_entry 1 to 3 and 5 to 10, yulanbowls_column 1
- *   to 10, the two readers of files 4 and 11 to 14, the two writers 1 to 4, and yulanbowls_move 1 to 4, 6 to 8,
- *   15 and 16.
+ *   yulanbowls_table can return 1 to 4, 6 to 10 and 12, yulanbowls_entry 1 to 3, 5 to 10 and 12, yulanbowls_column
+ *   1 to 10 and 12, the two readers of files 4 and 11 to 14, the two writers 1 to 4 and 12, and yulanbowls_move
+ *   1 to 4, 6 to 8, 12 and 15 to 17.
  *
  * What the caller owes, in every call (nothing tests it)
  *   - Each pointer is not null, is aligned for its type, and points to as many numbers or bytes as the
@@ -72,101 +78,105 @@
 extern "C" {
 #endif
 
-/* The largest n, the most numbers of a sheet or a table, the bytes of the longest sheet file, and the bytes
- * that yulanbowls_report has to be lent. */
+/* The largest n, the most numbers of a sheet or a table, the least and the largest e of a time unit, the bytes of
+ * the longest sheet file, and the bytes that yulanbowls_report has to be lent. */
 #define YULANBOWLS_STAGES 32
 #define YULANBOWLS_NUMBERS 1024
-#define YULANBOWLS_FILE_BYTES 8458
+#define YULANBOWLS_UNIT_LEAST (-512)
+#define YULANBOWLS_UNIT_MOST 512
+#define YULANBOWLS_FILE_BYTES 8460
 #define YULANBOWLS_TEXT_BYTES 32768
 
 /*
- * The whole table. Accepted: the first n * n places of `answer` hold it row by row, place (i, j) the seconds
- * that a request entering at stage i spends at stage j, and later places are unchanged. Every entry in the row
- * or the column of an idle stage is plus zero. `*allowance` is E = 4n^3 (reading 1) or 12n^3 (reading 2): the
- * exact matrix of the stages that are not idle has one inverse, no entry of which is negative, and each of
- * their entries is within a factor (1 + 2^-53)^E of that inverse's, above and below, so it is zero exactly
- * where that is zero. The bits are those of the published steps, each rounded once.
+ * The whole table. Accepted: the first n * n places of `answer` hold it row by row, place (i, j) the time, in
+ * units of 2^e seconds, that a request entering at stage i spends at stage j, and later places are unchanged.
+ * Every entry in the row or the column of an idle stage is plus zero. `*allowance` is E = 4n^3 (reading 1) or
+ * 12n^3 (reading 2): the exact matrix of the stages that are not idle has one inverse, no entry of which is
+ * negative, and each of their entries is within a factor (1 + 2^-53)^E of that inverse's, above and below, so it
+ * is zero exactly where that is zero. The bits are those of the published steps, each rounded once.
  */
-size_t yulanbowls_table(size_t reading, size_t n,
+size_t yulanbowls_table(size_t reading, size_t n, int64_t e,
                         const double *sheet, size_t sheet_length,
                         double *answer, size_t answer_length,
                         size_t *allowance, size_t *row, size_t *column);
 
 /*
- * Entry (i, j) of the table. Accepted: `*seconds` has the bits of that entry in the whole table, and its
- * accuracy. It is refused with 10 wherever the whole table is.
+ * Entry (i, j) of the table. Accepted: `*seconds`, in units of 2^e seconds, has the bits of that entry in the
+ * whole table, and its accuracy. It is refused with 10 wherever the whole table is.
  */
-size_t yulanbowls_entry(size_t reading, size_t n,
+size_t yulanbowls_entry(size_t reading, size_t n, int64_t e,
                         const double *sheet, size_t sheet_length,
                         size_t i, size_t j,
                         double *seconds, size_t *row, size_t *column);
 
 /*
  * The column of one stage, for reading 1 alone: reading 2 is refused with 1. `answer` needs room for n numbers.
- * Accepted: its first n places hold the column, place i the seconds that a request entering at stage i spends
- * at `stage`, and later places are unchanged. `*allowance` is E = 4n^3, and each number is within a factor
- * (1 + 2^-53)^E of that entry of the exact inverse, or plus zero for an idle stage, as in the table. Where the
- * whole table is accepted so is each of its columns, with the same bits. The call takes fewer steps than the
- * table, so it may be accepted where the whole table is refused with 10; its accuracy is the same there. The
- * column of an idle stage is n plus zeros; it is refused with 10 where a step that serves every column leaves
- * the range.
+ * Accepted: its first n places hold the column, place i the time, in units of 2^e seconds, that a request
+ * entering at stage i spends at `stage`, and later places are unchanged. `*allowance` is E = 4n^3, and each
+ * number is within a factor (1 + 2^-53)^E of that entry of the exact inverse, or plus zero for an idle stage, as
+ * in the table. Where the whole table is accepted so is each of its columns, with the same bits. The call takes
+ * fewer steps than the table, so it may be accepted where the whole table is refused with 10; its accuracy is
+ * the same there. The column of an idle stage is n plus zeros; it is refused with 10 where a step that serves
+ * every column leaves the range.
  */
-size_t yulanbowls_column(size_t reading, size_t n,
+size_t yulanbowls_column(size_t reading, size_t n, int64_t e,
                          const double *sheet, size_t sheet_length,
                          size_t stage,
                          double *answer, size_t answer_length,
                          size_t *allowance, size_t *row, size_t *column);
 
 /*
- * Reads a sheet file that is in memory. Accepted: `*reading` and `*n` are those of its head, the first n * n
- * places of `area` hold its numbers row by row, and later places are unchanged. The numbers are not judged:
- * that is for the calls above. A NaN of the file becomes a NaN, whose bits may differ; every other number
- * keeps its bits.
+ * Reads a sheet file that is in memory. Accepted: `*reading`, `*n` and `*e` are those of its head, the first n * n
+ * places of `area` hold its numbers row by row, and later places are unchanged. A file from before units, with no
+ * e in its head, is in seconds: `*e` is 0. The numbers are not judged: that is for the calls above. A NaN of the
+ * file becomes a NaN, whose bits may differ; every other number keeps its bits.
  */
 size_t yulanbowls_read_numbers(const uint8_t *bytes, size_t bytes_length,
                                double *area, size_t area_length,
-                               size_t *reading, size_t *n, size_t *row, size_t *column);
+                               size_t *reading, size_t *n, int64_t *e, size_t *row, size_t *column);
 
 /* The same into 64-bit words, which keep the bits of every number, of a NaN too. */
 size_t yulanbowls_read_words(const uint8_t *bytes, size_t bytes_length,
                              uint64_t *area, size_t area_length,
-                             size_t *reading, size_t *n, size_t *row, size_t *column);
+                             size_t *reading, size_t *n, int64_t *e, size_t *row, size_t *column);
 
 /*
  * Saves a sheet as a file in memory. Accepted: the first `*length` bytes of `bytes` are the file, of
- * 10 + n * (8n + 8) bytes, so at most YULANBOWLS_FILE_BYTES, and later bytes are unchanged. The numbers are
+ * 12 + n * (8n + 8) bytes, so at most YULANBOWLS_FILE_BYTES, and later bytes are unchanged. The numbers are
  * not judged: a sheet with a NaN, a wrong sign or a stage that nobody leaves is saved too. Read back, the file
- * gives the same reading, n and numbers. Every number keeps its bits, but a NaN is written as
+ * gives the same reading, n, e and numbers. Every number keeps its bits, but a NaN is written as
  * 7ff8000000000000.
  */
-size_t yulanbowls_save_numbers(size_t reading, size_t n,
+size_t yulanbowls_save_numbers(size_t reading, size_t n, int64_t e,
                                const double *sheet, size_t sheet_length,
                                uint8_t *bytes, size_t bytes_length,
                                size_t *length, size_t *row, size_t *column);
 
 /* The same from 64-bit words, which keep the bits of every number, of a NaN too: what
- * yulanbowls_read_words has read is saved as the bytes that it was read from. */
-size_t yulanbowls_save_words(size_t reading, size_t n,
+ * yulanbowls_read_words has read is saved as the bytes that it was read from, or, if it was read from a file from
+ * before units, as that file with e = 0 in its head. */
+size_t yulanbowls_save_words(size_t reading, size_t n, int64_t e,
                              const uint64_t *sheet, size_t sheet_length,
                              uint8_t *bytes, size_t bytes_length,
                              size_t *length, size_t *row, size_t *column);
 
 /*
  * Moves a sheet to another time unit: every number times 2^k, for k from -512 to 512. Accepted: the first n * n
- * places of `area` hold the results row by row, and later places are unchanged. Each result is exact, and a zero
- * keeps its sign.
+ * places of `area` hold the results row by row, and later places are unchanged; `*moved_e` is e + k, the e of the
+ * unit of the moved sheet. Each result is exact, and a zero keeps its sign.
  *
- * The numbers of a sheet are rates, so for a clock that ticks 1,024 times a second k is -10: a rate per tick is
- * the rate per second divided by 1,024. The table of the moved sheet counts ticks, 1,024 to the second.
+ * The numbers of a sheet are rates, so from seconds, e = 0, to a clock that ticks 1,024 times a second k is -10: a
+ * rate per tick is the rate per second divided by 1,024. The table of the moved sheet counts ticks, 1,024 to the
+ * second.
  *
  * 9 and 10 are not looked for: a sheet with a stage that nobody leaves is moved too, and the table may refuse a
  * moved sheet although it accepts the sheet itself.
  */
-size_t yulanbowls_move(size_t reading, size_t n,
+size_t yulanbowls_move(size_t reading, size_t n, int64_t e,
                        const double *sheet, size_t sheet_length,
                        int64_t k,
                        double *area, size_t area_length,
-                       size_t *row, size_t *column);
+                       int64_t *moved_e, size_t *row, size_t *column);
 
 /*
  * The text that the dwell program prints for a sheet file: its table or its refusal. The text stands at the

@@ -25,19 +25,20 @@ from typing import Callable, NamedTuple, Sequence
 
 from hosts import PLACES, TEXT_BYTES, Calls, Difference, Library, declared
 import reference
-from reference import LARGEST, SMALLEST_NORMAL, bits_of
+from reference import FURTHEST_POWER, LARGEST, POWERS_OUT_OF_RANGE, SMALLEST_NORMAL, bits_of
 
 HUGE = [2 ** 32, 2 ** 63, 2 ** 64 - 1]
-POWERS_OUT_OF_RANGE = [-513, 513, -1024, 1024, -2 ** 32, 2 ** 32, 2 ** 32 + 10, -2 ** 63, 2 ** 63 - 1]
 
 
 # ==== Sheets ====
 
 @dataclass
 class Sheet:
-    """A sheet as it is lent: the reading, the number of stages, and the numbers as 64-bit words."""
+    """A sheet as it is lent: the reading, the number of stages, the e of its unit, and the numbers as 64-bit
+    words."""
     reading: int
     n: int
+    e: int
     words: list[int]
 
 
@@ -183,7 +184,24 @@ def lent(rng: random.Random, reading: int, n: int, numbers: Sequence[float]) -> 
         reading = rng.choice([0, 3, 3 - reading if reading < 3 else 0, *HUGE])
     if rng.random() < 0.03:
         n = rng.choice([0, 33, n - 1, n + 1, *HUGE])
-    return Sheet(reading, n, words)
+    return Sheet(reading, n, some_unit(rng), words)
+
+
+def some_unit(rng: random.Random) -> int:
+    """The e of a sheet's unit: mostly in its range, and then often an end of it; at times out of it, also by far."""
+    return rng.choice(POWERS_OUT_OF_RANGE) if rng.random() < 0.04 else reference.random_unit(rng)
+
+
+def unit_to_move(rng: random.Random, k: int) -> int:
+    """The e of a sheet that is moved by k: mostly one for which e + k is in its range, or at an end of it or beside
+    that."""
+    kind = rng.random()
+    if kind < 0.3 or abs(k) > FURTHEST_POWER:
+        return some_unit(rng)
+    least, most = max(-FURTHEST_POWER, -FURTHEST_POWER - k), min(FURTHEST_POWER, FURTHEST_POWER - k)
+    if kind < 0.6:
+        return (most if k > 0 else least) + rng.choice([-1, 0, 1])
+    return rng.randint(least, most)
 
 
 def some_stage(rng: random.Random, n: int) -> int:
@@ -223,13 +241,22 @@ def some_file(rng: random.Random) -> bytes:
     else:
         reading = rng.choice([0, 1, 1, 2, 2, 2, 3]) if rng.random() < 0.3 else rng.choice([1, 2])
         words = [rng.choice([rng.getrandbits(64), 0x7ff0000000000001, 0xfff8000000000000]) for _ in range(n * n)]
-    data = reference.make_file_words(reading, n, words)
+    data = head_of_file(rng, reading, n) + reference.make_rows(n, words)
     return data if rng.random() < 0.35 else damaged_file(rng, data, n)
+
+
+def head_of_file(rng: random.Random, reading: int, n: int) -> bytes:
+    """The head of a file: one that says its unit, which is at times out of range, or document 01's."""
+    if rng.random() < 0.3:
+        return reference.make_short_head(reading, n)
+    unit = rng.choice([-513, 513, -32768, 32767]) if rng.random() < 0.04 else reference.random_unit(rng)
+    return reference.make_head(reading, n, unit)
 
 
 def damaged_file(rng: random.Random, data: bytes, n: int) -> bytes:
     """A file that is cut, longer, has a field changed, or its rows exchanged."""
     row = 8 * n + 8
+    head = len(data) - n * row
     kind = rng.randrange(6)
     if kind == 0:
         return data[:rng.randrange(len(data))]
@@ -239,12 +266,14 @@ def damaged_file(rng: random.Random, data: bytes, n: int) -> bytes:
         at = rng.randrange(len(data))
         return data[:at] + bytes([data[at] ^ 1 << rng.randrange(8)]) + data[at + 1:]
     if kind == 3:
-        first, second = (data[10 + row * k:10 + row * (k + 1)] for k in (rng.randrange(n), rng.randrange(n)))
-        return data[:10] + first + second + data[10 + 2 * row:]
-    start = rng.choice([0] + [10 + row * k for k in range(n)])
-    at, form = rng.choice([(0, "<I"), (4, "<H"), (6, "<H")] + ([(8, "<H")] if start == 0 else []))
+        first, second = (data[head + row * k:head + row * (k + 1)] for k in (rng.randrange(n), rng.randrange(n)))
+        return data[:head] + first + second + data[head + 2 * row:]
+    start = rng.choice([0] + [head + row * k for k in range(n)])
+    own_fields = [(at, "<H") for at in range(8, head, 2)] if start == 0 else []
+    at, form = rng.choice([(0, "<I"), (4, "<H"), (6, "<H"), *own_fields])
     old = struct.unpack_from(form, data, start + at)[0]
-    new = rng.choice([0, 1, 2, 3, 32, 33, old + 1, old - 1, old + 8, 8453, 8454, 2 ** 16 - 1, 2 ** 32 - 1])
+    new = rng.choice([0, 1, 2, 3, 4, 5, 6, 7, 32, 33, 512, 513, -512, -513, old + 1, old - 1, old + 8, 8455, 8456,
+                      2 ** 16 - 1, 2 ** 32 - 1])
     changed = bytearray(data)
     struct.pack_into(form, changed, start + at, new % (2 ** 32 if form == "<I" else 2 ** 16))
     return bytes(changed) + bytes(rng.choice([0, 0, 9000]))
@@ -270,7 +299,7 @@ def outcome(number: int, reading: int, n: int, words: Sequence[int]) -> Outcome:
 def call_table(calls: Calls, rng: random.Random) -> Outcome:
     """The whole table."""
     sheet = some_sheet(rng)
-    told = calls.table(sheet.reading, sheet.n, sheet.words, some_room(rng, min(sheet.n, 33) ** 2))
+    told = calls.table(sheet.reading, sheet.n, sheet.e, sheet.words, some_room(rng, min(sheet.n, 33) ** 2))
     return outcome(told[0], sheet.reading, sheet.n, sheet.words)
 
 
@@ -278,7 +307,7 @@ def call_entry(calls: Calls, rng: random.Random) -> Outcome:
     """One entry."""
     sheet = some_sheet(rng)
     i, j = some_stage(rng, sheet.n), some_stage(rng, sheet.n)
-    told = calls.entry(sheet.reading, sheet.n, sheet.words, i, j)
+    told = calls.entry(sheet.reading, sheet.n, sheet.e, sheet.words, i, j)
     return outcome(told[0], sheet.reading, sheet.n, sheet.words)
 
 
@@ -286,7 +315,7 @@ def call_column(calls: Calls, rng: random.Random) -> Outcome:
     """One column."""
     sheet = some_sheet(rng, for_column=True)
     stage = some_stage(rng, sheet.n)
-    told = calls.column(sheet.reading, sheet.n, sheet.words, stage, some_room(rng, min(sheet.n, 33)))
+    told = calls.column(sheet.reading, sheet.n, sheet.e, sheet.words, stage, some_room(rng, min(sheet.n, 33)))
     return outcome(told[0], sheet.reading, sheet.n, sheet.words)
 
 
@@ -312,12 +341,11 @@ def writer(name: str) -> Call:
     """One of the two writers of files."""
     def call(calls: Calls, rng: random.Random) -> Outcome:
         sheet = saved_sheet(rng)
-        n = min(sheet.n, 33)
-        needed = 10 + n * (8 * n + 8)
+        needed = reference.file_length(min(sheet.n, 33))
         kind = rng.random()
         room = (rng.choice([0, 9, needed - 1, rng.randrange(needed)]) if kind < 0.06
                 else needed + (0 if kind < 0.5 else rng.choice([1, 2, 7, 40, 9000])))
-        return Outcome(calls.save(name, sheet.reading, sheet.n, sheet.words, room)[0])
+        return Outcome(calls.save(name, sheet.reading, sheet.n, sheet.e, sheet.words, room)[0])
     return call
 
 
@@ -325,7 +353,7 @@ def call_move(calls: Calls, rng: random.Random) -> Outcome:
     """A sheet moved to another time unit."""
     sheet = sheet_to_move(rng)
     k, room = some_power(rng, sheet.words), some_room(rng, min(sheet.n, 33) ** 2)
-    return Outcome(calls.move(sheet.reading, sheet.n, sheet.words, k, room)[0])
+    return Outcome(calls.move(sheet.reading, sheet.n, unit_to_move(rng, k), sheet.words, k, room)[0])
 
 
 def call_report(calls: Calls, rng: random.Random) -> Outcome:
@@ -341,14 +369,14 @@ def call_report(calls: Calls, rng: random.Random) -> Outcome:
 
 # Each export with the refusals that it can answer; those that can answer 9 make seconds of a sheet.
 EXPORTS: dict[str, tuple[Call, set[int]]] = {
-    "yulanbowls_table": (call_table, {1, 2, 3, 4, 6, 7, 8, 9, 10}),
-    "yulanbowls_entry": (call_entry, {1, 2, 3, 5, 6, 7, 8, 9, 10}),
-    "yulanbowls_column": (call_column, {1, 2, 3, 4, 5, 6, 7, 8, 9, 10}),
+    "yulanbowls_table": (call_table, {1, 2, 3, 4, 6, 7, 8, 9, 10, 12}),
+    "yulanbowls_entry": (call_entry, {1, 2, 3, 5, 6, 7, 8, 9, 10, 12}),
+    "yulanbowls_column": (call_column, {1, 2, 3, 4, 5, 6, 7, 8, 9, 10, 12}),
     "yulanbowls_read_numbers": (reader("yulanbowls_read_numbers"), {4, 11, 12, 13, 14}),
     "yulanbowls_read_words": (reader("yulanbowls_read_words"), {4, 11, 12, 13, 14}),
-    "yulanbowls_save_numbers": (writer("yulanbowls_save_numbers"), {1, 2, 3, 4}),
-    "yulanbowls_save_words": (writer("yulanbowls_save_words"), {1, 2, 3, 4}),
-    "yulanbowls_move": (call_move, {1, 2, 3, 4, 6, 7, 8, 15, 16}),
+    "yulanbowls_save_numbers": (writer("yulanbowls_save_numbers"), {1, 2, 3, 4, 12}),
+    "yulanbowls_save_words": (writer("yulanbowls_save_words"), {1, 2, 3, 4, 12}),
+    "yulanbowls_move": (call_move, {1, 2, 3, 4, 6, 7, 8, 12, 15, 16, 17}),
     "yulanbowls_report": (call_report, {6, 7, 8, 9, 10, 11, 12, 13, 14}),
 }
 

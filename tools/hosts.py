@@ -1,9 +1,9 @@
 """The library for hosts in this process, each call held to the reference.
 
 `Library` builds target/staticlib/libhosts.a by `rt staticlib hosts`, or takes an archive that is there, makes a
-shared object of it and loads that.  `Calls` makes single calls: every lent area and out place stands between guards and holds random bits
-before the call, and afterwards the number returned and every place are those that `tools/reference.py`
-gives.  A `Difference` says what is not.  The environment variable CC names the C compiler.
+shared object of it and loads that.  `Calls` makes single calls: every lent area and out place stands between
+guards and holds random bits before the call, and afterwards the number returned and every place are those that
+`tools/reference.py` gives.  A `Difference` says what is not.  The environment variable CC names the C compiler.
 """
 from __future__ import annotations
 
@@ -76,14 +76,15 @@ class Library:
             self.functions[name] = function
 
     def call(self, name: str, **arguments: Union[int, "Lent"]) -> int:
-        """Calls an export: an area under its name goes in as its address, and `NAME_length` is its length."""
+        """Calls an export: an area under its name goes in as its address, `NAME_length` is its length, and a number
+        goes in as an unsigned word, a negative one as its two's complement."""
         words: list[int] = []
         for parameter in self.parameters[name]:
             if parameter.endswith("_length") and parameter not in arguments:
                 words.append(arguments[parameter[:-len("_length")]].length)
             else:
                 value = arguments[parameter]
-                words.append(value.address if isinstance(value, Lent) else value)
+                words.append(value.address if isinstance(value, Lent) else value % 2 ** 64)
         return self.functions[name](*words)
 
 
@@ -160,8 +161,9 @@ class Calls:
         return told(answer)
 
     def handed(self, place: Lent, word: Optional[int], what: str) -> None:
-        """An out place: what the call hands over, and what it held before where the call is refused."""
-        self.same(place.after(), place.content if word is None else packed([word]), what)
+        """An out place: what the call hands over, a negative number as its two's complement, and what it held before
+        where the call is refused."""
+        self.same(place.after(), place.content if word is None else packed([word % 2 ** 64]), what)
 
     def filled(self, area: Lent, allowance: Lent, answer: Union[Table, Column, Refused]) -> None:
         """The answer area and the allowance after a table or a column was asked for."""
@@ -172,34 +174,34 @@ class Calls:
         self.handed(allowance, word, "allowance")
         self.same(area.after(), entries + area.content[len(entries):], "answer area")
 
-    def table(self, reading: int, n: int, words: Sequence[int], room: int) -> Told:
+    def table(self, reading: int, n: int, e: int, words: Sequence[int], room: int) -> Told:
         """The whole table of a sheet, given by its 64-bit words, with an area of so many places."""
         sheet, area = Lent(packed(words)), self.area(room)
         allowance, row, column = self.place(), self.place(), self.place()
-        number = self.library.call("yulanbowls_table", reading=reading, n=n, sheet=sheet, answer=area,
+        number = self.library.call("yulanbowls_table", reading=reading, n=n, e=e, sheet=sheet, answer=area,
                                    allowance=allowance, row=row, column=column)
-        answer = reference.table(reading, n, [number_of(word) for word in words], room)
+        answer = reference.table(reading, n, e, [number_of(word) for word in words], room)
         self.filled(area, allowance, answer)
         self.same(sheet.after(), sheet.content, "sheet")
         return self.refusal(number, row, column, answer)
 
-    def column(self, reading: int, n: int, words: Sequence[int], stage: int, room: int) -> Told:
+    def column(self, reading: int, n: int, e: int, words: Sequence[int], stage: int, room: int) -> Told:
         """The column of a stage of a sheet, with an area of so many places."""
         sheet, area = Lent(packed(words)), self.area(room)
         allowance, row, column = self.place(), self.place(), self.place()
-        number = self.library.call("yulanbowls_column", reading=reading, n=n, sheet=sheet, stage=stage, answer=area,
-                                   allowance=allowance, row=row, column=column)
-        answer = reference.column(reading, n, [number_of(word) for word in words], stage, room)
+        number = self.library.call("yulanbowls_column", reading=reading, n=n, e=e, sheet=sheet, stage=stage,
+                                   answer=area, allowance=allowance, row=row, column=column)
+        answer = reference.column(reading, n, e, [number_of(word) for word in words], stage, room)
         self.filled(area, allowance, answer)
         self.same(sheet.after(), sheet.content, "sheet")
         return self.refusal(number, row, column, answer)
 
-    def entry(self, reading: int, n: int, words: Sequence[int], i: int, j: int) -> Told:
+    def entry(self, reading: int, n: int, e: int, words: Sequence[int], i: int, j: int) -> Told:
         """Entry (i, j) of a sheet."""
         sheet, seconds, row, column = Lent(packed(words)), self.place(), self.place(), self.place()
-        number = self.library.call("yulanbowls_entry", reading=reading, n=n, sheet=sheet, i=i, j=j,
+        number = self.library.call("yulanbowls_entry", reading=reading, n=n, e=e, sheet=sheet, i=i, j=j,
                                    seconds=seconds, row=row, column=column)
-        answer = reference.entry(reading, n, [number_of(word) for word in words], i, j)
+        answer = reference.entry(reading, n, e, [number_of(word) for word in words], i, j)
         self.handed(seconds, bits_of(answer.value) if isinstance(answer, Seconds) else None, "seconds")
         self.same(sheet.after(), sheet.content, "sheet")
         return self.refusal(number, row, column, answer)
@@ -207,12 +209,13 @@ class Calls:
     def read(self, name: str, data: bytes, room: int) -> Told:
         """A file read by one of the two readers into an area of so many places."""
         source, area = Lent(data, 1), self.area(room)
-        reading, n, row, column = self.place(), self.place(), self.place(), self.place()
-        number = self.library.call(name, bytes=source, area=area, reading=reading, n=n, row=row, column=column)
+        reading, n, e, row, column = (self.place() for _ in range(5))
+        number = self.library.call(name, bytes=source, area=area, reading=reading, n=n, e=e, row=row, column=column)
         answer = reference.load(data, room)
         loaded = isinstance(answer, Loaded)
         self.handed(reading, answer.reading if loaded else None, "reading")
         self.handed(n, answer.n if loaded else None, "n")
+        self.handed(e, answer.e if loaded else None, "e")
         self.numbers(name, area, answer.words if loaded else [])
         self.same(source.after(), data, "file")
         return self.refusal(number, row, column, answer)
@@ -226,30 +229,31 @@ class Calls:
                     after[at] = word
         self.same(packed(after), packed(words) + area.content[8 * len(words):], "area")
 
-    def save(self, name: str, reading: int, n: int, words: Sequence[int], room: int) -> Told:
+    def save(self, name: str, reading: int, n: int, e: int, words: Sequence[int], room: int) -> Told:
         """A sheet, given by its 64-bit words, saved by one of the two writers into an area of so many bytes."""
         sheet, area = Lent(packed(words)), Lent(self.rng.randbytes(room), 1)
         length, row, column = self.place(), self.place(), self.place()
-        number = self.library.call(name, reading=reading, n=n, sheet=sheet, bytes=area, length=length, row=row,
+        number = self.library.call(name, reading=reading, n=n, e=e, sheet=sheet, bytes=area, length=length, row=row,
                                    column=column)
         if name == "yulanbowls_save_numbers":
-            answer = reference.save_numbers(reading, n, [number_of(word) for word in words], room)
+            answer = reference.save_numbers(reading, n, e, [number_of(word) for word in words], room)
         else:
-            answer = reference.save(reading, n, words, room)
+            answer = reference.save(reading, n, e, words, room)
         data = answer.data if isinstance(answer, Saved) else b""
         self.handed(length, len(data) if isinstance(answer, Saved) else None, "length")
         self.same(area.after(), data + area.content[len(data):], "bytes")
         self.same(sheet.after(), sheet.content, "sheet")
         return self.refusal(number, row, column, answer)
 
-    def move(self, reading: int, n: int, words: Sequence[int], k: int, room: int) -> Told:
-        """A sheet moved by 2^k, any signed 64-bit k, into a second area of so many places.  Arguments go in as
-        unsigned words, so a negative k as its two's complement."""
-        sheet, area, row, column = Lent(packed(words)), self.area(room), self.place(), self.place()
-        number = self.library.call("yulanbowls_move", reading=reading, n=n, sheet=sheet, k=k % 2 ** 64, area=area,
-                                   row=row, column=column)
-        answer = reference.move(reading, n, [number_of(word) for word in words], k, room)
+    def move(self, reading: int, n: int, e: int, words: Sequence[int], k: int, room: int) -> Told:
+        """A sheet moved by 2^k, any signed 64-bit k, into a second area of so many places."""
+        sheet, area = Lent(packed(words)), self.area(room)
+        moved_e, row, column = self.place(), self.place(), self.place()
+        number = self.library.call("yulanbowls_move", reading=reading, n=n, e=e, sheet=sheet, k=k, area=area,
+                                   moved_e=moved_e, row=row, column=column)
+        answer = reference.move(reading, n, e, [number_of(word) for word in words], k, room)
         moved = packed([bits_of(x) for x in answer.numbers]) if isinstance(answer, Moved) else b""
+        self.handed(moved_e, answer.e if isinstance(answer, Moved) else None, "moved_e")
         self.same(area.after(), moved + area.content[len(moved):], "area")
         self.same(sheet.after(), sheet.content, "sheet")
         return self.refusal(number, row, column, answer)

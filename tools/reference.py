@@ -10,6 +10,7 @@ code and from 1 in every answer.
 """
 from __future__ import annotations
 
+import itertools
 import math
 import random
 import re
@@ -23,8 +24,8 @@ from typing import Callable, Iterable, Optional, Sequence, TypeVar, Union
 LIMIT = 32                      # the most stages of a sheet
 SMALLEST_NORMAL = 2.0 ** -1022  # products and quotients of nonzero numbers stay above it
 LARGEST = sys.float_info.max
-LONGEST_FILE = 8458
-FURTHEST_POWER = 512            # a sheet is moved by 2^k for k from -512 to 512
+FURTHEST_POWER = 512            # for k from -512 to 512 a sheet is moved by 2^k, and for such e its unit is 2^e seconds
+IN_SECONDS = 0                  # the e of a sheet in seconds
 LEAVING_RATES, MARGINS = 1, 2
 
 Row = list[float]
@@ -65,9 +66,11 @@ class Seconds:
 
 @dataclass(frozen=True)
 class Loaded:
-    """A sheet read from a file; the words keep every bit of its numbers, NaN patterns included."""
+    """A sheet read from a file, its unit being 2^e seconds; the words keep every bit of its numbers, NaN patterns
+    included."""
     reading: int
     n: int
+    e: int
     words: list[int]
 
     @property
@@ -83,8 +86,9 @@ class Saved:
 
 @dataclass(frozen=True)
 class Moved:
-    """The numbers of a sheet in another time unit, row by row."""
+    """The numbers of a sheet in another time unit, row by row, and the e of that unit."""
     numbers: list[float]
+    e: int
 
 
 def bits_of(number: float) -> int:
@@ -334,6 +338,11 @@ def ask_size(n: int) -> Optional[Refused]:
     return None if 1 <= n <= LIMIT else Refused(2)
 
 
+def ask_unit(e: int) -> Optional[Refused]:
+    """Question 12 of a call that is handed e (02, U5), asked after 2: is e from −512 to 512?"""
+    return None if -FURTHEST_POWER <= e <= FURTHEST_POWER else Refused(12)
+
+
 def ask_sheet_length(n: int, sheet: Sequence[object]) -> Optional[Refused]:
     """Question 3: does the sheet hold exactly n × n numbers?"""
     return None if len(sheet) == n * n else Refused(3)
@@ -408,6 +417,11 @@ def ask_power(k: int) -> Optional[Refused]:
     return None if -FURTHEST_POWER <= k <= FURTHEST_POWER else Refused(15)
 
 
+def ask_new_unit(e: int, k: int) -> Optional[Refused]:
+    """Question 17 (02, U5), asked after 15: is e + k from −512 to 512?"""
+    return Refused(17) if ask_unit(e + k) else None
+
+
 def times_power(x: float, k: int) -> Fraction:
     """The exact x·2^k of a finite x, whether or not a float holds it."""
     return Fraction(x) * Fraction(2) ** k
@@ -434,10 +448,14 @@ def invert(reading: int, n: int, sheet: Sequence[float]) -> Union[Matrix, Refuse
     return own_rows(n, live, x, 0.0)
 
 
-def table(reading: int, n: int, sheet: Sequence[float], area_length: int) -> Union[Table, Refused]:
-    """The whole table: questions 1, 2, 3, 4, 6, 7, 8, 9, 10."""
-    refusal = (ask_reading(reading) or ask_size(n) or ask_sheet_length(n, sheet)
-               or ask_area(n * n, area_length) or ask_numbers(reading, n, sheet))
+def ask_sheet(reading: int, n: int, e: int, sheet: Sequence[object]) -> Optional[Refused]:
+    """Questions 1, 2, 12 and 3, in this order."""
+    return ask_reading(reading) or ask_size(n) or ask_unit(e) or ask_sheet_length(n, sheet)
+
+
+def table(reading: int, n: int, e: int, sheet: Sequence[float], area_length: int) -> Union[Table, Refused]:
+    """The whole table in the sheet's unit, 2^e seconds: questions 1, 2, 12, 3, 4, 6, 7, 8, 9, 10."""
+    refusal = ask_sheet(reading, n, e, sheet) or ask_area(n * n, area_length) or ask_numbers(reading, n, sheet)
     if refusal:
         return refusal
     x = invert(reading, n, sheet)
@@ -446,22 +464,22 @@ def table(reading: int, n: int, sheet: Sequence[float], area_length: int) -> Uni
     return Table(n, allowance(reading, n), [number for row in x for number in row])
 
 
-def entry(reading: int, n: int, sheet: Sequence[float], i: int, j: int) -> Union[Seconds, Refused]:
-    """One entry: questions 1, 2, 3, 5, 6, 7, 8, 9, 10; stages i and j are numbered from 1."""
-    refusal = (ask_reading(reading) or ask_size(n) or ask_sheet_length(n, sheet)
-               or ask_stages(n, i, j) or ask_numbers(reading, n, sheet))
+def entry(reading: int, n: int, e: int, sheet: Sequence[float], i: int, j: int) -> Union[Seconds, Refused]:
+    """One entry: questions 1, 2, 12, 3, 5, 6, 7, 8, 9, 10; stages i and j are numbered from 1."""
+    refusal = ask_sheet(reading, n, e, sheet) or ask_stages(n, i, j) or ask_numbers(reading, n, sheet)
     if refusal:
         return refusal
     x = invert(reading, n, sheet)
     return x if isinstance(x, Refused) else Seconds(x[i - 1][j - 1])
 
 
-def column(reading: int, n: int, sheet: Sequence[float], stage: int, area_length: int) -> Union[Column, Refused]:
-    """One column (02, U2): questions 1 to 10, of which 4 asks for n numbers and 5 about the one stage; 10
-    looks at the steps that serve every column and at those of this column of b, and at no other.  For an idle
-    stage all steps of the others are taken with a column of zeros."""
-    refusal = (ask_leaving_rates(reading) or ask_size(n) or ask_sheet_length(n, sheet)
-               or ask_area(n, area_length) or ask_stages(n, stage) or ask_numbers(reading, n, sheet))
+def column(reading: int, n: int, e: int, sheet: Sequence[float], stage: int,
+           area_length: int) -> Union[Column, Refused]:
+    """One column (02, U2): questions 1, 2, 12, then 3 to 10, of which 1 asks for reading 1, 4 for n numbers and 5
+    about the one stage; 10 looks at the steps that serve every column and at those of this column of b, and at no
+    other.  For an idle stage all steps of the others are taken with a column of zeros."""
+    refusal = (ask_leaving_rates(reading) or ask_sheet(reading, n, e, sheet) or ask_area(n, area_length)
+               or ask_stages(n, stage) or ask_numbers(reading, n, sheet))
     if refusal:
         return refusal
     live = live_stages(reading, n, sheet)
@@ -473,11 +491,12 @@ def column(reading: int, n: int, sheet: Sequence[float], stage: int, area_length
     return Column(own_places(n, live, entries, 0.0), allowance(reading, n))
 
 
-def move(reading: int, n: int, sheet: Sequence[float], k: int, area_length: int) -> Union[Moved, Refused]:
-    """Every number times 2^k (02, U4): questions 1 to 4, 6, 7 and 8, then 15 and 16, and no other."""
-    refusal = (ask_reading(reading) or ask_size(n) or ask_sheet_length(n, sheet) or ask_area(n * n, area_length)
-               or ask_places(reading, n, sheet) or ask_power(k) or ask_results(sheet, k))
-    return refusal or Moved([moved_number(x, k) for x in sheet])
+def move(reading: int, n: int, e: int, sheet: Sequence[float], k: int, area_length: int) -> Union[Moved, Refused]:
+    """Every number times 2^k, which makes the unit 2^(e + k) seconds (02, U4 and U5): questions 1, 2, 12, 3, 4, 6,
+    7 and 8, then 15, 17 and 16, and no other."""
+    refusal = (ask_sheet(reading, n, e, sheet) or ask_area(n * n, area_length) or ask_places(reading, n, sheet)
+               or ask_power(k) or ask_new_unit(e, k) or ask_results(sheet, k))
+    return refusal or Moved([moved_number(x, k) for x in sheet], e + k)
 
 
 def moved_number(x: float, k: int) -> float:
@@ -489,34 +508,89 @@ def moved_number(x: float, k: int) -> float:
     return result
 
 
-# ==== The sheet file and the dwell program (01, "The sheet file") ====
+# ==== The sheet file and the dwell program (01, "The sheet file"; 02, U5) ====
 
-HEAD, SHEET_ROW = 1, 2  # kinds of records
+HEAD, SHEET_ROW = 1, 2      # kinds of records
+LENGTH_AND_KIND = "<IH"     # what stands before the payload of a record, little-endian like all
+HEAD_PAYLOAD = "<HHh"       # reading, n and a signed e: what is written
+SHORT_HEAD_PAYLOAD = "<HH"  # document 01's head, which is still read: e is 0
+
+
+def row_payload(n: int) -> str:
+    """The row number, and the n numbers as 64-bit words."""
+    return f"<H{n}Q"
+
+
+def file_length(n: int) -> int:
+    """The bytes of the file of n stages that is written."""
+    before = struct.calcsize(LENGTH_AND_KIND)
+    return before + struct.calcsize(HEAD_PAYLOAD) + n * (before + struct.calcsize(row_payload(n)))
+
+
+LONGEST_FILE = file_length(LIMIT)
 
 
 def record(kind: int, payload: bytes) -> bytes:
     """A record: 4-byte length of the payload, 2-byte kind, the payload, little-endian."""
-    return struct.pack("<IH", len(payload), kind) + payload
+    return struct.pack(LENGTH_AND_KIND, len(payload), kind) + payload
 
 
-def make_file_words(reading: int, n: int, words: Sequence[int]) -> bytes:
-    """The sheet file of n rows of 64-bit words."""
-    rows = [struct.pack(f"<H{n}Q", i + 1, *words[i * n:(i + 1) * n]) for i in range(n)]
-    return record(HEAD, struct.pack("<HH", reading, n)) + b"".join(record(SHEET_ROW, row) for row in rows)
+def make_head(reading: int, n: int, e: int) -> bytes:
+    """The head of a file."""
+    return record(HEAD, struct.pack(HEAD_PAYLOAD, reading, n, e))
 
 
-def make_file(reading: int, n: int, numbers: Sequence[float]) -> bytes:
+def make_short_head(reading: int, n: int) -> bytes:
+    """The head of a file by document 01 alone."""
+    return record(HEAD, struct.pack(SHORT_HEAD_PAYLOAD, reading, n))
+
+
+def make_rows(n: int, words: Sequence[int]) -> bytes:
+    """The rows of a file."""
+    return b"".join(record(SHEET_ROW, struct.pack(row_payload(n), i + 1, *words[i * n:(i + 1) * n]))
+                    for i in range(n))
+
+
+def make_file_words(reading: int, n: int, e: int, words: Sequence[int]) -> bytes:
+    """The sheet file of n rows of 64-bit words in units of 2^e seconds."""
+    return make_head(reading, n, e) + make_rows(n, words)
+
+
+def make_file(reading: int, n: int, e: int, numbers: Sequence[float]) -> bytes:
     """The sheet file of n rows of numbers."""
-    return make_file_words(reading, n, [bits_of(x) for x in numbers])
+    return make_file_words(reading, n, e, [bits_of(x) for x in numbers])
+
+
+def make_short_file_words(reading: int, n: int, words: Sequence[int]) -> bytes:
+    """The sheet file by document 01 alone, whose head says no unit."""
+    return make_short_head(reading, n) + make_rows(n, words)
+
+
+def make_short_file(reading: int, n: int, numbers: Sequence[float]) -> bytes:
+    """The same of n rows of numbers."""
+    return make_short_file_words(reading, n, [bits_of(x) for x in numbers])
 
 
 def read_record(data: bytes, at: int) -> Optional[tuple[int, bytes, int]]:
     """Kind, payload and end of the record that starts here; None where bytes are missing (11)."""
-    if len(data) - at < 6:
+    start = at + struct.calcsize(LENGTH_AND_KIND)
+    if start > len(data):
         return None
-    length, kind = struct.unpack_from("<IH", data, at)
-    end = at + 6 + length
-    return None if end > len(data) else (kind, data[at + 6:end], end)
+    length, kind = struct.unpack_from(LENGTH_AND_KIND, data, at)
+    end = start + length
+    return None if end > len(data) else (kind, data[start:end], end)
+
+
+def read_head(payload: bytes) -> Optional[tuple[int, int, int]]:
+    """Reading, n and e of a head's payload; None where it is no head's (12)."""
+    if len(payload) == struct.calcsize(SHORT_HEAD_PAYLOAD):
+        reading, n = struct.unpack(SHORT_HEAD_PAYLOAD, payload)
+        e = IN_SECONDS
+    elif len(payload) == struct.calcsize(HEAD_PAYLOAD):
+        reading, n, e = struct.unpack(HEAD_PAYLOAD, payload)
+    else:
+        return None
+    return None if ask_reading(reading) or ask_size(n) or ask_unit(e) else (reading, n, e)
 
 
 def load(data: bytes, area_length: int) -> Union[Loaded, Refused]:
@@ -525,35 +599,36 @@ def load(data: bytes, area_length: int) -> Union[Loaded, Refused]:
     if head is None:
         return Refused(11, 0)
     kind, payload, at = head
-    if kind != HEAD or len(payload) != 4:
+    said = read_head(payload) if kind == HEAD else None
+    if said is None:
         return Refused(12)
-    reading, n = struct.unpack("<HH", payload)
-    if reading not in (LEAVING_RATES, MARGINS) or not 1 <= n <= LIMIT:
-        return Refused(12)
+    reading, n, e = said
     words: list[int] = []
     for row in range(1, n + 1):
         due = read_record(data, at)
         if due is None:
             return Refused(11, row)
         kind, payload, at = due
-        if kind != SHEET_ROW or len(payload) != 2 + 8 * n or struct.unpack_from("<H", payload)[0] != row:
+        if kind != SHEET_ROW or len(payload) != struct.calcsize(row_payload(n)):
             return Refused(13, row)
-        words += struct.unpack_from(f"<{n}Q", payload, 2)
+        own_number, *numbers = struct.unpack(row_payload(n), payload)
+        if own_number != row:
+            return Refused(13, row)
+        words += numbers
     if at != len(data):
         return Refused(14)
-    return ask_reading(reading) or ask_size(n) or ask_area(n * n, area_length) or Loaded(reading, n, words)
+    return ask_reading(reading) or ask_size(n) or ask_area(n * n, area_length) or Loaded(reading, n, e, words)
 
 
-def save(reading: int, n: int, words: Sequence[int], area_length: int) -> Union[Saved, Refused]:
-    """Saving (02, U1): questions 1, 2, 3, then 4, which asks for 10 + n × (8n + 8) bytes, and no other."""
-    refusal = ask_reading(reading) or ask_size(n) or ask_sheet_length(n, words)
-    refusal = refusal or ask_area(10 + n * (8 * n + 8), area_length)
-    return refusal or Saved(make_file_words(reading, n, words))
+def save(reading: int, n: int, e: int, words: Sequence[int], area_length: int) -> Union[Saved, Refused]:
+    """Saving (02, U1 and U5): questions 1, 2, 12, 3, then 4, which asks for the bytes of the file, and no other."""
+    refusal = ask_sheet(reading, n, e, words) or ask_area(file_length(n), area_length)
+    return refusal or Saved(make_file_words(reading, n, e, words))
 
 
-def save_numbers(reading: int, n: int, sheet: Sequence[float], area_length: int) -> Union[Saved, Refused]:
+def save_numbers(reading: int, n: int, e: int, sheet: Sequence[float], area_length: int) -> Union[Saved, Refused]:
     """Saving a sheet of numbers: each by its bits, and a NaN as the one NaN."""
-    return save(reading, n, [word_of(number) for number in sheet], area_length)
+    return save(reading, n, e, [word_of(number) for number in sheet], area_length)
 
 
 def table_of_stream(stream: bytes) -> Union[tuple[Loaded, Table], Refused]:
@@ -561,7 +636,7 @@ def table_of_stream(stream: bytes) -> Union[tuple[Loaded, Table], Refused]:
     sheet = load(stream[:LONGEST_FILE + 1], LIMIT * LIMIT)
     if isinstance(sheet, Refused):
         return sheet
-    answer = table(sheet.reading, sheet.n, sheet.numbers, LIMIT * LIMIT)
+    answer = table(sheet.reading, sheet.n, sheet.e, sheet.numbers, LIMIT * LIMIT)
     return answer if isinstance(answer, Refused) else (sheet, answer)
 
 
@@ -570,8 +645,8 @@ def dwell(stream: bytes) -> str:
     found = table_of_stream(stream)
     if isinstance(found, Refused):
         return refused_line(found)
-    answer = found[1]
-    lines = [f"seconds {answer.n} {answer.allowance}\n"]
+    sheet, answer = found
+    lines = [f"seconds {answer.n} {answer.allowance} {sheet.e}\n"]
     for place, x in enumerate(answer.entries):
         lines.append(f"{place // answer.n + 1} {place % answer.n + 1} {bits_of(x):016x}\n")
     return "".join(lines)
@@ -886,6 +961,12 @@ def random_power(rng: random.Random, sheet: Sequence[float]) -> int:
     return rng.choice(near) if near and rng.random() < 0.6 else rng.randint(-FURTHEST_POWER, FURTHEST_POWER)
 
 
+def random_unit(rng: random.Random) -> int:
+    """The e of a sheet's unit: seconds, ticks of 1/1,024 second, an end of its range, or any other."""
+    return rng.choice([IN_SECONDS, -10, -FURTHEST_POWER, FURTHEST_POWER, *(
+        rng.randint(-FURTHEST_POWER, FURTHEST_POWER) for _ in range(4))])
+
+
 def among_idle(rng: random.Random, n: int, sheet: Sequence[float], total: int) -> tuple[list[int], list[float]]:
     """A sheet of n stages among idle ones, so many in all: where its own stages come to stand, in their order,
     and the numbers."""
@@ -928,8 +1009,8 @@ def edge_pair(rng: random.Random, reading: int, n: int, sheet: list[float],
 
     def out_of_range(word: int) -> bool:
         changed_sheet = with_size(word)
-        return Refused(10) == (table(reading, n, changed_sheet, n * n) if stage is None
-                               else column(reading, n, changed_sheet, stage, n))
+        return Refused(10) == (table(reading, n, IN_SECONDS, changed_sheet, n * n) if stage is None
+                               else column(reading, n, IN_SECONDS, changed_sheet, stage, n))
 
     accepted = bits_of(abs(sheet[place]))
     ends = [bits_of(SMALLEST_NORMAL), bits_of(LARGEST)]
@@ -950,9 +1031,13 @@ def edge_pair(rng: random.Random, reading: int, n: int, sheet: list[float],
 
 NAN, INF = math.nan, math.inf
 LEAST_INT64, GREATEST_INT64 = -2 ** 63, 2 ** 63 - 1
+UNITS = [0, -512, -511, -10, -1, 1, 10, 511, 512]       # e in its range, both ends among them
+# k and e out of their range, some of them such that their low bytes alone are in it
+POWERS_OUT_OF_RANGE = [-513, 513, -1024, 1024, 65535, -65536, 2 ** 32, -2 ** 32, 2 ** 32 + 10, 2 ** 32 - 10,
+                       LEAST_INT64, GREATEST_INT64]
 P_SHEET = [1.0, -1.0, -1.0, 0.0]
 P_TABLE = [1.0, 1.0, 1.0, 2.0]
-P_PRINTED = """seconds 2 32
+P_PRINTED = """seconds 2 32 0
 1 1 3ff0000000000000
 1 2 3ff0000000000000
 2 1 3ff0000000000000
@@ -969,11 +1054,21 @@ def words_of(answer: Union[Refused, Sequence[float]]) -> Union[Refused, list[str
     return answer if isinstance(answer, Refused) else [f"{bits_of(x):016x}" for x in answer]
 
 
+def units_for_move(k: int) -> list[int]:
+    """Some e from which question 17 is answered yes for k, or not asked."""
+    return [e for e in UNITS if ask_power(k) or not ask_new_unit(e, k)]
+
+
 class Checks:
     """Counts the checks and stops at the first that fails."""
 
     def __init__(self) -> None:
         self.count = 0
+        self.units = itertools.cycle(UNITS)
+
+    def unit(self) -> int:
+        """An e in its range, another one at each call: no answer but a move's depends on it."""
+        return next(self.units)
 
     def true(self, what: str, holds: bool) -> None:
         self.count += 1
@@ -987,21 +1082,21 @@ class Checks:
               expected: Union[Refused, list[float]]) -> None:
         """The whole table and each single entry give these bits, or both services this refusal.  So do the
         columns for reading 1, unless a step is out of range; for reading 2 they are refused with 1."""
-        got = table(reading, n, sheet, n * n)
+        got = table(reading, n, self.unit(), sheet, n * n)
         if reading == MARGINS:
-            self.equal(f"{what}, one column", column(reading, n, sheet, 1, n), Refused(1))
+            self.equal(f"{what}, one column", column(reading, n, self.unit(), sheet, 1, n), Refused(1))
         if isinstance(expected, Refused):
             self.equal(what, got, expected)
-            self.equal(f"{what}, one entry", entry(reading, n, sheet, 1, 1), expected)
+            self.equal(f"{what}, one entry", entry(reading, n, self.unit(), sheet, 1, 1), expected)
             if reading == LEAVING_RATES and expected.number != 10:
-                self.equal(f"{what}, one column", column(reading, n, sheet, 1, n), expected)
+                self.equal(f"{what}, one column", column(reading, n, self.unit(), sheet, 1, n), expected)
             return
         self.true(f"{what}: {got}", isinstance(got, Table))
         factor = 4 if reading == 1 else 12
         self.equal(f"{what}, n and allowance", (got.n, got.allowance), (n, factor * n * n * n))
         self.equal(what, words_of(got.entries), words_of(expected))
         for place, x in enumerate(expected):
-            one = entry(reading, n, sheet, place // n + 1, place % n + 1)
+            one = entry(reading, n, self.unit(), sheet, place // n + 1, place % n + 1)
             self.true(f"{what}, one entry: {one}", isinstance(one, Seconds) and bits_of(one.value) == bits_of(x))
         for stage in range(1, n + 1) if reading == LEAVING_RATES else ():
             self.column(f"{what}, column {stage}", n, sheet, stage, expected[stage - 1::n])
@@ -1009,18 +1104,22 @@ class Checks:
     def column(self, what: str, n: int, sheet: Sequence[float], stage: int,
                expected: Union[Refused, Sequence[float]]) -> None:
         """One column of reading 1 gives these bits with their allowance, or this refusal."""
-        got = column(LEAVING_RATES, n, sheet, stage, n)
+        got = column(LEAVING_RATES, n, self.unit(), sheet, stage, n)
         self.equal(what, words_of(got.entries if isinstance(got, Column) else got), words_of(expected))
         if isinstance(got, Column):
             self.equal(f"{what}, allowance", got.allowance, 4 * n * n * n)
 
     def moves(self, what: str, reading: int, n: int, sheet: Sequence[float], k: int,
               expected: Union[Refused, Sequence[float]]) -> None:
-        """Moving by 2^k, with just enough room and with more, gives these bits or this refusal."""
-        for room in (n * n, n * n + 5):
-            got = move(reading, n, sheet, k, room)
+        """Moving by 2^k, with just enough room and with more, gives these bits and e + k, or this refusal, which is
+        not 17."""
+        units = units_for_move(k)
+        for room, e in ((n * n, units[0]), (n * n + 5, units[-1])):
+            got = move(reading, n, e, sheet, k, room)
             self.equal(f"{what}, times 2^{k}", words_of(got.numbers if isinstance(got, Moved) else got),
                        words_of(expected))
+            if isinstance(got, Moved):
+                self.equal(f"{what}, e + k", got.e, e + k)
 
 
 def test_document_sheets(check: Checks) -> None:
@@ -1064,21 +1163,21 @@ def test_order_and_places(check: Checks) -> None:
     check.gives("lowest trapped stage", 1, 4, [0.0, 0.0, 0.0, -1.0, 0.0, 0.0, -1.0, 0.0,
                                                0.0, -1.0, 0.0, 0.0, 0.0, 0.0, 0.0, 1.0], Refused(9, 2, 0))
     for reading in (0, 3, 2 ** 64 - 1):
-        check.equal("1 before 2", table(reading, 0, [], 0), Refused(1))
-        check.equal("1 before 2, entry", entry(reading, 0, [], 0, 0), Refused(1))
+        check.equal("1 before 2", table(reading, 0, 513, [], 0), Refused(1))
+        check.equal("1 before 2, entry", entry(reading, 0, 513, [], 0, 0), Refused(1))
     for n in (0, 33, 2 ** 32, 2 ** 63, 2 ** 64 - 1):
-        check.equal("2 before 3", table(1, n, [NAN], 0), Refused(2))
-        check.equal("2 before 3, entry", entry(2, n, [NAN], 0, 0), Refused(2))
+        check.equal("2 before 12", table(1, n, -513, [NAN], 0), Refused(2))
+        check.equal("2 before 12, entry", entry(2, n, 513, [NAN], 0, 0), Refused(2))
     for length in (0, 1, 3, 5):
-        check.equal("3 before 4", table(1, 2, [NAN] * length, 0), Refused(3))
-        check.equal("3 before 5", entry(1, 2, [NAN] * length, 0, 0), Refused(3))
-    check.equal("4 before 6", table(1, 1, [NAN], 0), Refused(4))
-    check.equal("area one short", table(1, 2, P_SHEET, 3), Refused(4))
-    check.true("a larger area", isinstance(table(1, 2, P_SHEET, 2000), Table))
-    check.equal("5 before 6", entry(1, 1, [NAN], 2, 1), Refused(5))
+        check.equal("3 before 4", table(1, 2, -512, [NAN] * length, 0), Refused(3))
+        check.equal("3 before 5", entry(1, 2, 512, [NAN] * length, 0, 0), Refused(3))
+    check.equal("4 before 6", table(1, 1, 0, [NAN], 0), Refused(4))
+    check.equal("area one short", table(1, 2, -10, P_SHEET, 3), Refused(4))
+    check.true("a larger area", isinstance(table(1, 2, 10, P_SHEET, 2000), Table))
+    check.equal("5 before 6", entry(1, 1, 0, [NAN], 2, 1), Refused(5))
     for i, j in [(0, 1), (1, 0), (3, 1), (1, 3), (2 ** 64 - 1, 1), (1, 2 ** 64 - 1)]:
-        check.equal("5", entry(1, 2, P_SHEET, i, j), Refused(5))
-    check.equal("entry of a refused table", entry(1, 2, [1.0, 0.0, 0.0, two_to_1022], 1, 1), Refused(10))
+        check.equal("5", entry(1, 2, check.unit(), P_SHEET, i, j), Refused(5))
+    check.equal("entry of a refused table", entry(1, 2, 0, [1.0, 0.0, 0.0, two_to_1022], 1, 1), Refused(10))
 
 
 def test_zeros(check: Checks) -> None:
@@ -1175,7 +1274,7 @@ def test_margins(check: Checks) -> None:
             ("upward from the last stage", 1, 3, [1.0, -(2.0 ** -53 + 2.0 ** -60), -2.0 ** -53,
                                                   -(1 + 2.0 ** -51), 0.0, 0.0, -(1 + 2.0 ** -51), 0.0, 0.0],
              1, 1, 0x3feffffffffffffe)]:
-        got = entry(reading, n, sheet, i, j)
+        got = entry(reading, n, check.unit(), sheet, i, j)
         check.true(f"{what}: {got}", isinstance(got, Seconds) and bits_of(got.value) == bits)
 
 
@@ -1254,7 +1353,7 @@ def test_literal_steps(check: Checks, rng: random.Random) -> None:
     for _ in range(300):
         n = rng.randint(1, 9)
         sheet = random_sheet(rng, LEAVING_RATES, n, random_style(rng, 60))
-        got = table(LEAVING_RATES, n, sheet, n * n)
+        got = table(LEAVING_RATES, n, check.unit(), sheet, n * n)
         if isinstance(got, Table):
             check.equal("column by column", words_of(got.entries),
                         words_of(literal_steps(n, sheet, range(1, n + 1), float)))
@@ -1271,26 +1370,26 @@ def literal_answer(n: int, sheet: Sequence[float], columns: Sequence[int]) -> Un
 def test_column_questions(check: Checks) -> None:
     """One column: the questions in order, what is handed over, and a table of which one column is in range."""
     half = [1.0, 0.0, 0.0, 2.0 ** 1022]
-    check.equal("column 1 of a refused table", column(1, 2, half, 1, 2), Column([1.0, 0.0], 32))
-    check.equal("column 2 of it", column(1, 2, half, 2, 2), Refused(10))
-    check.equal("that table", table(1, 2, half, 4), Refused(10))
+    check.equal("column 1 of a refused table", column(1, 2, 0, half, 1, 2), Column([1.0, 0.0], 32))
+    check.equal("column 2 of it", column(1, 2, 0, half, 2, 2), Refused(10))
+    check.equal("that table", table(1, 2, 0, half, 4), Refused(10))
     lost_pivot = [1.0, 0.0, 0.0, 0.0, LARGEST, -LARGEST, 0.0, 0.0, 1.0]
     for stage in (1, 2, 3):
         check.column("a pivot that overflows", 3, lost_pivot, stage, Refused(10))
     for stage, expected in ((1, [1.0, 1.0]), (2, [1.0, 2.0])):
         check.column("column of P", 2, P_SHEET, stage, expected)
-        check.equal("a larger area", column(1, 2, P_SHEET, stage, 2000), Column(expected, 32))
+        check.equal("a larger area", column(1, 2, check.unit(), P_SHEET, stage, 2000), Column(expected, 32))
     for reading in (0, 2, 3, 2 ** 64 - 1):
-        check.equal("1 before 2, column", column(reading, 0, [], 0, 0), Refused(1))
-        check.equal("1 of a good sheet", column(reading, 2, P_SHEET, 1, 2), Refused(1))
+        check.equal("1 before 2, column", column(reading, 0, 513, [], 0, 0), Refused(1))
+        check.equal("1 of a good sheet", column(reading, 2, 0, P_SHEET, 1, 2), Refused(1))
     for n in (0, 33, 2 ** 32, 2 ** 63, 2 ** 64 - 1):
-        check.equal("2 before 3, column", column(1, n, [NAN], 0, 0), Refused(2))
+        check.equal("2 before 12, column", column(1, n, -513, [NAN], 0, 0), Refused(2))
     for length in (0, 1, 3, 5):
-        check.equal("3 before 4, column", column(1, 2, [NAN] * length, 0, 0), Refused(3))
+        check.equal("3 before 4, column", column(1, 2, 512, [NAN] * length, 0, 0), Refused(3))
     for room in (0, 1):
-        check.equal("4 before 5", column(1, 2, [NAN] * 4, 0, room), Refused(4))
+        check.equal("4 before 5", column(1, 2, -512, [NAN] * 4, 0, room), Refused(4))
     for stage in (0, 3, 2 ** 63, 2 ** 64 - 1):
-        check.equal("5 before 6, column", column(1, 2, [NAN] * 4, stage, 2), Refused(5))
+        check.equal("5 before 6, column", column(1, 2, -10, [NAN] * 4, stage, 2), Refused(5))
     for what, sheet, expected in [
             ("6 before 7", [5.0, 1.0, NAN, 1.0], Refused(6, 2, 1)),
             ("7 before 8", [1.0, -2.0 ** -1074, 1.0, 1.0], Refused(7, 2, 1)),
@@ -1339,7 +1438,7 @@ class PartlyInRange:
 def check_columns(check: Checks, n: int, sheet: list[float], seen: PartlyInRange) -> None:
     """Every column of a sheet that 6 to 9 pass has the bits and the decision of the text's steps for it, and
     is accepted with the table; where the table is not, the accepted ones keep the accuracy rule."""
-    got, whole = table(LEAVING_RATES, n, sheet, n * n), literal_answer(n, sheet, range(1, n + 1))
+    got, whole = table(LEAVING_RATES, n, check.unit(), sheet, n * n), literal_answer(n, sheet, range(1, n + 1))
     check.equal(f"table of {sheet}", words_of(got.entries if isinstance(got, Table) else got), words_of(whole))
     kept: dict[int, list[float]] = {}
     for stage in range(1, n + 1):
@@ -1400,7 +1499,7 @@ def test_trapped(check: Checks, rng: random.Random) -> None:
             sheet = [(1.0 if p % (n + 1) == 0 else -1.0) if present[p] else 0.0 for p in range(n * n)]
             live = [i for i in range(n) if any(present[i * n + j] or present[j * n + i] for j in range(n))]
             trapped = [i + 1 for i in live if not leads_out(moves, leaves, i)]
-            got = table(1, n, sheet, n * n)
+            got = table(1, n, check.unit(), sheet, n * n)
             if trapped:
                 check.equal(f"trapped, {sheet}", got, Refused(9, trapped[0], 0))
             else:
@@ -1431,7 +1530,7 @@ def test_idle(check: Checks) -> None:
             ("6 in a row of zeros", 2, [0.0, NAN, 0.0, 0.0], Refused(6, 1, 2)),
             ("7 in a row of zeros", 2, [0.0, 0.0, 1.0, 0.0], Refused(7, 2, 1))]:
         check.gives(what, LEAVING_RATES, n, sheet, expected)
-    many = table(LEAVING_RATES, LIMIT, [-0.0] * 1024, 1024)
+    many = table(LEAVING_RATES, LIMIT, 0, [-0.0] * 1024, 1024)
     check.equal("32 idle stages", (words_of(many.entries), many.allowance), (["0" * 16] * 1024, 131072))
     check.gives("margins have no idle stages", MARGINS, 2, [1.0, 0.0, 0.0, 0.0], Refused(7, 2, 2))
     check.column("an idle stage beside a last division out of range", 2, [0.0, 0.0, 0.0, 2.0 ** 1022], 1, [0.0, 0.0])
@@ -1453,7 +1552,8 @@ def check_among_idle(check: Checks, rng: random.Random, n: int, sheet: list[floa
     and columns are plus zero, and the column of an idle stage takes the steps that serve every column.  The
     answer is handed back."""
     live, wide = among_idle(rng, n, sheet, total)
-    alone, got = table(LEAVING_RATES, n, sheet, n * n), table(LEAVING_RATES, total, wide, total * total)
+    alone = table(LEAVING_RATES, n, check.unit(), sheet, n * n)
+    got = table(LEAVING_RATES, total, check.unit(), wide, total * total)
     if isinstance(alone, Refused):
         expected = among_others(alone, live)
     else:
@@ -1462,7 +1562,7 @@ def check_among_idle(check: Checks, rng: random.Random, n: int, sheet: list[floa
     check.equal(f"{sheet} among idle stages", words_of(got.entries if isinstance(got, Table) else got),
                 words_of(expected))
     i, j = rng.randrange(total), rng.randrange(total)
-    one = entry(LEAVING_RATES, total, wide, i + 1, j + 1)
+    one = entry(LEAVING_RATES, total, check.unit(), wide, i + 1, j + 1)
     check.equal(f"entry ({i + 1}, {j + 1}) of {wide}", words_of([one.value] if isinstance(one, Seconds) else one),
                 words_of(expected if isinstance(expected, Refused) else [expected[i * total + j]]))
     for stage in range(1, total + 1) if total < 12 else rng.sample(range(1, total + 1), 3):
@@ -1474,13 +1574,80 @@ def expected_among_idle(n: int, sheet: list[float], live: Sequence[int], total: 
                         stage: int) -> Union[Refused, list[float]]:
     """The column of a stage of that sheet, by the sheet without the idle stages."""
     if stage - 1 in live:
-        alone = column(LEAVING_RATES, n, sheet, live.index(stage - 1) + 1, n)
+        alone = column(LEAVING_RATES, n, IN_SECONDS, sheet, live.index(stage - 1) + 1, n)
     else:
         steps = ask_numbers(LEAVING_RATES, n, sheet) or literal_answer(n, sheet, [])    # with no column of b
         alone = steps if isinstance(steps, Refused) else Column([0.0] * n, 0)
     if isinstance(alone, Refused):
         return among_others(alone, live)
     return [alone.entries[live.index(i)] if i in live else 0.0 for i in range(total)]
+
+
+def test_units(check: Checks) -> None:
+    """The e that a call is handed (02, U5): 12 out of its range, after 2 and before 3, in every service on a sheet;
+    in its range it changes no answer."""
+    for e in POWERS_OUT_OF_RANGE:
+        for what, sheet, reading, room in [("12 before 3", [NAN] * 3, 1, 0), ("12 before 4", [NAN] * 4, 1, 0),
+                                           ("12 before 6", [NAN] * 4, 1, 60), ("12 alone", P_SHEET, 1, 60),
+                                           ("12 before 3, margins", [NAN] * 5, 2, 0),
+                                           ("12 alone, margins", [3.0, -1.0, -4.0, 1.0], 2, 60)]:
+            check.equal(f"{what}, e = {e}", table(reading, 2, e, sheet, room), Refused(12))
+            check.equal(f"{what}, e = {e}, entry", entry(reading, 2, e, sheet, 0, 3), Refused(12))
+            check.equal(f"{what}, e = {e}, a good entry", entry(reading, 2, e, sheet, 1, 1), Refused(12))
+            check.equal(f"{what}, e = {e}, column", column(1, 2, e, sheet, 0, room), Refused(12))
+            check.equal(f"{what}, e = {e}, a good column", column(1, 2, e, sheet, 1, room), Refused(12))
+            check.equal(f"1 before 12, e = {e}, column", column(2, 2, e, sheet, 1, room), Refused(1))
+            check.equal(f"{what}, e = {e}, saving", save(reading, 2, e, [0] * len(sheet), room), Refused(12))
+            check.equal(f"{what}, e = {e}, saving numbers", save_numbers(reading, 2, e, sheet, room), Refused(12))
+            for k in (-e, 0, 600, 513, -513):
+                check.equal(f"{what}, e = {e}, moving by {k}", move(reading, 2, e, sheet, k, room), Refused(12))
+    for e in range(-514, 515):
+        within = -512 <= e <= 512
+        check.equal(f"table, e = {e}", table(1, 2, e, P_SHEET, 4), Table(2, 32, P_TABLE) if within else Refused(12))
+        check.equal(f"entry, e = {e}", entry(1, 2, e, P_SHEET, 2, 2), Seconds(2.0) if within else Refused(12))
+        check.equal(f"column, e = {e}", column(1, 2, e, P_SHEET, 2, 2),
+                    Column([1.0, 2.0], 32) if within else Refused(12))
+        check.equal(f"saving, e = {e}", isinstance(save_numbers(1, 2, e, P_SHEET, 60), Saved), within)
+        check.equal(f"moving by 0, e = {e}", move(1, 2, e, P_SHEET, 0, 4), Moved(P_SHEET, e) if within else Refused(12))
+
+
+def test_moving_units(check: Checks) -> None:
+    """Moving: what e becomes, 17 at both ends of its range, and the order of 8, 15, 17 and 16."""
+    for e, k, expected in [
+            (0, -10, -10), (-10, 10, 0), (512, -512, 0), (-512, 512, 0), (512, 0, 512), (-512, 0, -512), (511, 1, 512),
+            (-511, -1, -512), (0, 512, 512), (0, -512, -512), (256, 256, 512), (-300, -212, -512), (500, -512, -12),
+            (512, 1, None), (-512, -1, None), (1, 512, None), (-1, -512, None), (512, 512, None), (-512, -512, None),
+            (257, 256, None), (-300, -213, None)]:
+        check.equal(f"e = {e} by {k}", move(1, 1, e, [1.0], k, 1),
+                    Refused(17) if expected is None else Moved([2.0 ** k], expected))
+    for reading in (1, 2):
+        for e in range(-512, 513):
+            for end in (-512, 512):
+                k = end - e
+                for past, within in ((0, True), (1 if end > 0 else -1, False)):
+                    if abs(k + past) <= 512:
+                        got = move(reading, 1, e, [1.0], k + past, 1)
+                        check.equal(f"e = {e} to {end + past}", got,
+                                    Moved([2.0 ** k], end) if within else Refused(17))
+    tiny = 2.0 ** -1074
+    for what, sheet, e, k, expected in [
+            ("8 before 17", [1.0, -tiny, 0.0, 1.0], 512, 1, Refused(8, 1, 2)),
+            ("15 before 17, above", [1.0, 0.0, 0.0, 1.0], 512, 513, Refused(15)),
+            ("15 before 17, below", [1.0, 0.0, 0.0, 1.0], -512, -513, Refused(15)),
+            ("15 though e + k is in range", [1.0, 0.0, 0.0, 1.0], -512, 600, Refused(15)),
+            ("15 before 17 before 16", [1.0, 0.0, 0.0, LARGEST], 512, 513, Refused(15)),
+            ("17 before 16, above", [1.0, 0.0, 0.0, LARGEST], 512, 1, Refused(17)),
+            ("17 before 16, below", [1.0, -SMALLEST_NORMAL, 0.0, 1.0], -512, -1, Refused(17)),
+            ("17 alone", [1.0, -1.0, 0.0, 1.0], 512, 1, Refused(17)),
+            ("16 at an end of e", [1.0, 0.0, 0.0, LARGEST], 511, 1, Refused(16)),
+            ("16 at the other end", [1.0, -SMALLEST_NORMAL, 0.0, 1.0], -511, -1, Refused(16)),
+            ("15 for the least k", [1.0, 0.0, 0.0, 1.0], -512, LEAST_INT64, Refused(15)),
+            ("15 for the greatest k", [1.0, 0.0, 0.0, 1.0], 512, GREATEST_INT64, Refused(15))]:
+        for reading in (1, 2):
+            check.equal(what, move(reading, 2, e, sheet, k, 4), expected)
+    check.equal("12 before 8", move(1, 2, 513, [1.0, -tiny, 0.0, 1.0], -1, 4), Refused(12))
+    check.equal("12 though e + k is in range", move(1, 2, 513, P_SHEET, -1, 4), Refused(12))
+    check.equal("4 before 17", move(1, 2, 512, P_SHEET, 1, 3), Refused(4))
 
 
 def test_moving_documents(check: Checks) -> None:
@@ -1511,17 +1678,17 @@ def test_moving_order(check: Checks) -> None:
     """Moving: each question before the next, where both are answered no."""
     tiny, good = 2.0 ** -1074, [2.0, -1.0, -1.0, 2.0]
     for reading in (0, 3, 2 ** 64 - 1):
-        check.equal("1 before 2, moving", move(reading, 0, [], 600, 0), Refused(1))
-        check.equal("1 of a good sheet, moving", move(reading, 2, good, 1, 4), Refused(1))
+        check.equal("1 before 2, moving", move(reading, 0, 513, [], 600, 0), Refused(1))
+        check.equal("1 of a good sheet, moving", move(reading, 2, 0, good, 1, 4), Refused(1))
     for reading in (1, 2):
         for n in (0, 33, 2 ** 32, 2 ** 63, 2 ** 64 - 1):
-            check.equal("2 before 3, moving", move(reading, n, [NAN], 600, 0), Refused(2))
-        check.equal("33 stages, moving", move(reading, 33, [1.0] * 1089, 1, 1089), Refused(2))
+            check.equal("2 before 12, moving", move(reading, n, 513, [NAN], 600, 0), Refused(2))
+        check.equal("33 stages, moving", move(reading, 33, 0, [1.0] * 1089, 1, 1089), Refused(2))
         for length in (0, 1, 3, 5):
-            check.equal("3 before 4, moving", move(reading, 2, [NAN] * length, 600, 0), Refused(3))
+            check.equal("3 before 4, moving", move(reading, 2, 512, [NAN] * length, 600, 0), Refused(3))
         for room in (0, 2, 3):
-            check.equal("4 before 6, moving", move(reading, 2, [NAN] * 4, 600, room), Refused(4))
-            check.equal("4 of a good sheet", move(reading, 2, good, 1, room), Refused(4))
+            check.equal("4 before 6, moving", move(reading, 2, 512, [NAN] * 4, 600, room), Refused(4))
+            check.equal("4 of a good sheet", move(reading, 2, 0, good, 1, room), Refused(4))
         for what, sheet, k, expected in [
                 ("6 before 7", [5.0, 1.0, NAN, 1.0], 600, Refused(6, 2, 1)),
                 ("infinite is 6", [1.0, 0.0, -INF, 1.0], 600, Refused(6, 2, 1)),
@@ -1545,7 +1712,7 @@ def test_moving_ends(check: Checks) -> None:
     for reading in (1, 2):
         for k in (-FURTHEST_POWER, FURTHEST_POWER):
             check.moves("an end of the range of k", reading, 1, [1.0], k, [2.0 ** k])
-        for k in (-513, 513, -1023, 1024, -2 ** 32, 2 ** 32, 2 ** 32 + 1, LEAST_INT64, GREATEST_INT64):
+        for k in POWERS_OUT_OF_RANGE:
             check.moves("past it", reading, 1, [1.0], k, Refused(15))
     for k in range(-512, 513):
         # k lowers or raises the exponent field, which is 1 for 2^-1022 and 2046 for the largest number
@@ -1578,7 +1745,7 @@ def check_moved_again(check: Checks, rng: random.Random, reading: int, n: int, s
     sheet moved once, by the sum; whether that was tried."""
     check.moves("and back", reading, n, numbers, -k, sheet)
     further = random_power(rng, numbers)
-    again = move(reading, n, numbers, further, n * n)
+    again = move(reading, n, IN_SECONDS, numbers, further, n * n)
     if isinstance(again, Refused) or ask_power(k + further):
         return False
     check.moves("two moves as one", reading, n, sheet, k + further, again.numbers)
@@ -1592,7 +1759,7 @@ def test_random_moves(check: Checks, rng: random.Random, long: bool) -> None:
         reading, n = rng.choice([1, 2]), rng.randint(1, 6) if at % 100 else LIMIT
         sheet = sheet_to_move(rng, reading, n)
         k = random_power(rng, sheet)
-        got, expected = move(reading, n, sheet, k, n * n), moved_bits(sheet, k)
+        got, expected = move(reading, n, IN_SECONDS, sheet, k, n * n), moved_bits(sheet, k)
         check.equal(f"{sheet} by 2^{k}", [bits_of(x) for x in got.numbers] if isinstance(got, Moved) else got, expected)
         if isinstance(got, Moved):
             moved += 1
@@ -1615,92 +1782,152 @@ def test_file(check: Checks, rng: random.Random) -> None:
         for n in (1, 2, 3, 7, 31, 32):
             words = [rng.getrandbits(64) for _ in range(n * n)]
             words[-1] = rng.choice([0x7ff0000000000001, 0xfff8000000000000, 0x7ff8dead00000000, 1 << 63])
-            data = make_file_words(reading, n, words)
-            check.equal("length of a file", len(data), 10 + n * (8 * n + 8))
-            check.equal("round trip", load(data, n * n), Loaded(reading, n, words))
-            check.equal("an area one short", load(data, n * n - 1), Refused(4))
-            check.equal("one more byte, small area", load(data + b"\0", 0), Refused(14))
-    check.equal("longest file", len(make_file(1, 32, [1.0] * 1024)), 8458)
-    check.equal("bytes of A's file", make_file(1, 1, [2.0]).hex(),
+            unit = check.unit()
+            for data, head_bytes, e in ((make_file_words(reading, n, unit, words), 12, unit),
+                                        (make_short_file_words(reading, n, words), 10, 0)):
+                check.equal("length of a file", len(data), head_bytes + n * (8 * n + 8))
+                check.equal("round trip", load(data, n * n), Loaded(reading, n, e, words))
+                check.equal("an area one short", load(data, n * n - 1), Refused(4))
+                check.equal("one more byte, small area", load(data + b"\0", 0), Refused(14))
+    check.equal("longest file", (LONGEST_FILE, len(make_file(1, 32, 0, [1.0] * 1024))), (8460, 8460))
+    check.equal("bytes of A's file in ticks", make_file(1, 1, -10, [2.0]).hex(),
+                "060000000100" "01000100f6ff" "0a0000000200" "0100" "0000000000000040")
+    check.equal("bytes of A's file by document 01", make_short_file(1, 1, [2.0]).hex(),
                 "040000000100" "01000100" "0a0000000200" "0100" "0000000000000040")
     for number, word in [("0x7ff8dead00000001", 0x7ff8dead00000001), ("-0x1p-1022", 0x8010000000000000),
                          ("-0", 1 << 63), ("0.5", 0x3fe0000000000000), ("inf", 0x7ff0000000000000)]:
         check.equal(f"number {number}", parse_word(number), word)
-    data = make_file(1, 2, P_SHEET)
-    loaded = load(data, 4)
+    loaded = load(make_file(1, 2, 7, P_SHEET), 4)
     check.true("numbers of P's file", isinstance(loaded, Loaded) and loaded.numbers == P_SHEET)
-    for cut in range(58):
-        row_due = 0 if cut < 10 else 1 if cut < 34 else 2
+    test_damaged_file(check, make_file(1, 2, 7, P_SHEET), 12, 7)
+    test_damaged_file(check, make_short_file(1, 2, P_SHEET), 10, 0)
+    check.equal("10,006 bytes", load(struct.pack("<IH", 9000, 2) + bytes(10000), 1024), Refused(12))
+
+
+def test_damaged_file(check: Checks, data: bytes, rows: int, e: int) -> None:
+    """P's file, its rows from this byte on and of 24 bytes each: cut anywhere, and with each field changed."""
+    for cut in range(rows + 48):
+        row_due = 0 if cut < rows else 1 if cut < rows + 24 else 2
         check.equal(f"cut at {cut}", load(data[:cut], 0), Refused(11, row_due))
     words = [bits_of(x) for x in P_SHEET]
-    head, first, second = Refused(12), Refused(13, 1), Refused(13, 2)
+    head, first, second, after = Refused(12), Refused(13, 1), Refused(13, 2), rows + 42
     for at, form, values, expected in [
-            (0, "<I", (0, 3, 5, 6, 48, 52), head), (0, "<I", (53, 2 ** 31, 2 ** 32 - 1), Refused(11, 0)),
-            (4, "<H", (0, 2, 3, 257), head), (6, "<H", (0, 3, 257), head), (6, "<H", (2,), Loaded(2, 2, words)),
+            (0, "<I", (0, 3, 5, 7, 8, 48, after), head), (0, "<I", (after + 1, 2 ** 31, 2 ** 32 - 1), Refused(11, 0)),
+            (4, "<H", (0, 2, 3, 257), head), (6, "<H", (0, 3, 257), head), (6, "<H", (2,), Loaded(2, 2, e, words)),
             (8, "<H", (0, 33, 258, 65535), head), (8, "<H", (1, 3, 32), first),
-            (10, "<I", (0, 1, 17, 19, 42), first), (10, "<I", (43, 2 ** 32 - 1), Refused(11, 1)),
-            (14, "<H", (0, 1, 3, 258), first), (16, "<H", (0, 2, 257), first),
-            (34, "<I", (0, 17), second), (34, "<I", (19, 2 ** 32 - 1), Refused(11, 2)),
-            (38, "<H", (0, 1, 3, 258), second), (40, "<H", (0, 1, 3, 258), second),
-            (18, "<Q", (0x7ff8dead00000001,), Loaded(1, 2, [0x7ff8dead00000001] + words[1:]))]:
+            (rows, "<I", (0, 1, 17, 19, 42), first), (rows, "<I", (43, 2 ** 32 - 1), Refused(11, 1)),
+            (rows + 4, "<H", (0, 1, 3, 258), first), (rows + 6, "<H", (0, 2, 257), first),
+            (rows + 24, "<I", (0, 17), second), (rows + 24, "<I", (19, 2 ** 32 - 1), Refused(11, 2)),
+            (rows + 28, "<H", (0, 1, 3, 258), second), (rows + 30, "<H", (0, 1, 3, 258), second),
+            (rows + 8, "<Q", (0x7ff8dead00000001,), Loaded(1, 2, e, [0x7ff8dead00000001] + words[1:]))]:
         for value in values:
             check.equal(f"field at {at} is {value}", load(changed(data, at, form, value), 4), expected)
-    check.equal("a bad row before a cut one", load(changed(data, 16, "<H", 9)[:50], 4), first)
-    check.equal("a row of length 0", load(data[:10] + record(SHEET_ROW, b"") + data[34:], 4), first)
-    check.equal("a row of length 0 at the end", load(data[:34] + record(SHEET_ROW, b""), 4), second)
-    check.equal("10,006 bytes", load(struct.pack("<IH", 9000, 2) + bytes(10000), 1024), head)
+    check.equal("a bad row before a cut one", load(changed(data, rows + 6, "<H", 9)[:rows + 40], 4), first)
+    no_row = record(SHEET_ROW, b"")
+    check.equal("a row of length 0", load(data[:rows] + no_row + data[rows + 24:], 4), first)
+    check.equal("a row of length 0 at the end", load(data[:rows + 24] + no_row, 4), second)
+
+
+def test_units_of_files(check: Checks) -> None:
+    """The e of a head (02, U5): two bytes in two's complement, both ends of its range, and the lengths of a head."""
+    words = [bits_of(x) for x in P_SHEET]
+    rows = make_rows(2, words)
+
+    def file_with(payload: bytes) -> bytes:
+        return record(HEAD, payload) + rows
+
+    for word in range(65536):
+        e = word if word < 32768 else word - 65536
+        got = load(file_with(b"\1\0\2\0" + bytes([word % 256, word // 256])), 4)
+        check.equal(f"a head with the word {word:04x}", got,
+                    Loaded(1, 2, e, words) if -512 <= e <= 512 else Refused(12))
+    for e, last in ((-1, "ffff"), (-512, "00fe"), (512, "0002"), (0, "0000"), (-10, "f6ff"), (255, "ff00")):
+        check.equal(f"the bytes of e = {e}", make_head(1, 2, e).hex(), "060000000100" "01000200" + last)
+    for last in ("fffd", "0102", "0080", "ff7f", "0003"):     # -513, 513, -32768, 32767, 768
+        check.equal(f"e is {last}", load(file_with(bytes.fromhex("01000200" + last)), 4), Refused(12))
+    for payload in (b"", b"\1\0", b"\1\0\2", b"\1\0\2\0\0", b"\1\0\2\0\0\0\0", b"\1\0\2\0\0\0\0\0"):
+        check.equal(f"a head of {len(payload)} bytes", load(file_with(payload), 4), Refused(12))
+        check.equal("the same, nothing after it", load(record(HEAD, payload), 4), Refused(12))
+    check.equal("a head of four bytes", load(file_with(b"\1\0\2\0"), 4), Loaded(1, 2, 0, words))
+    check.equal("12 of a whole head, a cut row", load(record(HEAD, b"\1\0\2\0\1\2") + rows[:3], 0), Refused(12))
+    check.equal("a short head of 33 stages", load(make_short_head(1, 33) + rows, 4), Refused(12))
+    check.equal("a short head of reading 3", load(make_short_head(3, 2) + rows, 4), Refused(12))
+    for e in UNITS:
+        short = make_short_file(2, 2, P_SHEET)
+        check.equal("a four-byte head saved", save(2, 2, load(short, 4).e, load(short, 4).words, 60),
+                    Saved(bytes.fromhex("060000000100" "02000200" "0000") + short[10:]))
+        data = make_file(1, 2, e, P_SHEET)
+        again = load(data, 4)
+        check.equal("a six-byte head saved", save(again.reading, again.n, again.e, again.words, 60), Saved(data))
+    mailed = load(make_short_file(1, 2, P_SHEET), 4)
+    in_ticks = move(mailed.reading, mailed.n, mailed.e, mailed.numbers, -10, 4)
+    saved = save_numbers(mailed.reading, mailed.n, in_ticks.e, in_ticks.numbers, 60)
+    check.equal("P loaded, moved to ticks and saved", dwell(saved.data), "seconds 2 32 -10\n1 1 4090000000000000\n"
+                "1 2 4090000000000000\n2 1 4090000000000000\n2 2 40a0000000000000\n")
 
 
 def test_saving(check: Checks, rng: random.Random) -> None:
-    """Saving: the bytes in full, the order of 1 to 4, no other number, and both round trips."""
-    check.equal("P saved", save(1, 2, [bits_of(x) for x in P_SHEET], 58), Saved(bytes.fromhex(
-        "040000000100" "01000200" "120000000200" "0100" "000000000000f03f" "000000000000f0bf"
+    """Saving: the bytes in full, the order of 1, 2, 12, 3 and 4, no other number, and both round trips."""
+    check.equal("P saved", save(1, 2, -10, [bits_of(x) for x in P_SHEET], 60), Saved(bytes.fromhex(
+        "060000000100" "01000200" "f6ff" "120000000200" "0100" "000000000000f03f" "000000000000f0bf"
         "120000000200" "0200" "000000000000f0bf" "0000000000000000")))
     for what, arguments, expected in [
-            ("reading 0", (0, 0, [], 0), 1), ("reading 3", (3, 33, [], 0), 1), ("n = 0", (1, 0, [], 0), 2),
-            ("n = 33", (2, 33, [0] * 1089, 9000), 2), ("n = 2^63", (1, 2 ** 63, [], 0), 2),
-            ("a number too few", (1, 2, [0] * 3, 0), 3), ("a number too many", (2, 2, [0] * 5, 58), 3),
-            ("a byte too few", (1, 2, [0] * 4, 57), 4), ("no room", (2, 1, [0], 0), 4)]:
+            ("reading 0", (0, 0, 513, [], 0), 1), ("reading 3", (3, 33, 0, [], 0), 1),
+            ("n = 0", (1, 0, -513, [], 0), 2), ("n = 33", (2, 33, 0, [0] * 1089, 9000), 2),
+            ("n = 2^63", (1, 2 ** 63, 513, [], 0), 2),
+            ("e = 513", (1, 2, 513, [0] * 3, 0), 12), ("e = -513", (2, 2, -513, [0] * 4, 60), 12),
+            ("a number too few", (1, 2, 512, [0] * 3, 0), 3), ("a number too many", (2, 2, -512, [0] * 5, 60), 3),
+            ("a byte too few", (1, 2, 0, [0] * 4, 59), 4), ("no room", (2, 1, 0, [0], 0), 4)]:
         check.equal(f"saving, {what}", save(*arguments), Refused(expected))
     for reading in (1, 2):
         for n in range(1, LIMIT + 1):
-            size = 10 + n * (8 * n + 8)
+            e, size = check.unit(), 12 + n * (8 * n + 8)
             words = [rng.choice([rng.getrandbits(64), 0x7ff0000000000001, 0xfff8000000000000, 0, 1 << 63, 1])
                      for _ in range(n * n)]
-            saved = save(reading, n, words, size)
+            saved = save(reading, n, e, words, size)
             check.true(f"{n} stages saved", isinstance(saved, Saved) and len(saved.data) == size)
-            check.equal("loaded again", load(saved.data, n * n), Loaded(reading, n, words))
-            check.equal("saved again", save(reading, n, load(saved.data, n * n).words, size + 5), saved)
-            check.equal("one byte too few", save(reading, n, words, size - 1), Refused(4))
+            check.equal("loaded again", load(saved.data, n * n), Loaded(reading, n, e, words))
+            check.equal("saved again", save(reading, n, e, load(saved.data, n * n).words, size + 5), saved)
+            check.equal("one byte too few", save(reading, n, e, words, size - 1), Refused(4))
             numbers = load(saved.data, n * n).numbers
-            again = load(save_numbers(reading, n, numbers, size).data, n * n).words
-            check.equal("numbers, NaN as one", again, [ONE_NAN if x != x else word for x, word in zip(numbers, words)])
+            as_one_nan = [ONE_NAN if x != x else word for x, word in zip(numbers, words)]
+            check.equal("numbers, NaN as one", load(save_numbers(reading, n, e, numbers, size).data, n * n),
+                        Loaded(reading, n, e, as_one_nan))
 
 
 def test_dwell(check: Checks) -> None:
     """What the program prints, and how many bytes it judges."""
-    check.equal("dwell of P", dwell(make_file(1, 2, P_SHEET)), P_PRINTED)
-    check.equal("dwell of I", dwell(make_file(2, 2, [2.0, -0.0, -1.0, 4.0])),
-                "seconds 2 96\n1 1 3fe0000000000000\n1 2 0000000000000000\n"
+    check.equal("dwell of P", dwell(make_file(1, 2, 0, P_SHEET)), P_PRINTED)
+    check.equal("dwell of P by document 01", dwell(make_short_file(1, 2, P_SHEET)), P_PRINTED)
+    for e in UNITS:
+        check.equal(f"dwell of P, e = {e}", dwell(make_file(1, 2, e, P_SHEET)),
+                    P_PRINTED.replace("seconds 2 32 0", f"seconds 2 32 {e}"))
+    check.equal("dwell of I", dwell(make_file(2, 2, -512, [2.0, -0.0, -1.0, 4.0])),
+                "seconds 2 96 -512\n1 1 3fe0000000000000\n1 2 0000000000000000\n"
                 "2 1 3fc0000000000000\n2 2 3fd0000000000000\n")
-    check.equal("dwell of B", dwell(make_file(1, 1, [0.0])), "seconds 1 4\n1 1 0000000000000000\n")
-    check.equal("dwell of D", dwell(make_file(1, 2, [1.0, -0.0, 0.0, -0.0])),
-                "seconds 2 32\n1 1 3ff0000000000000\n1 2 0000000000000000\n"
+    check.equal("dwell of B", dwell(make_file(1, 1, 0, [0.0])), "seconds 1 4 0\n1 1 0000000000000000\n")
+    check.equal("dwell of D", dwell(make_file(1, 2, 512, [1.0, -0.0, 0.0, -0.0])),
+                "seconds 2 32 512\n1 1 3ff0000000000000\n1 2 0000000000000000\n"
                 "2 1 0000000000000000\n2 2 0000000000000000\n")
-    longest = make_file(1, 32, [2.0 if i == j else 0.0 for i in range(32) for j in range(32)])
+    longest = make_file(1, 32, -10, [2.0 if i == j else 0.0 for i in range(32) for j in range(32)])
     lines = dwell(longest).split("\n")
     check.equal("dwell of a longest file", (lines[0], lines[33], lines[1024:]),
-                ("seconds 32 131072", "2 1 0000000000000000", ["32 32 3fe0000000000000", ""]))
+                ("seconds 32 131072 -10", "2 1 0000000000000000", ["32 32 3fe0000000000000", ""]))
     for what, data, line in [
-            ("nothing", b"", "11 0 0"), ("a way in and none out", make_file(1, 2, [1.0, -1.0, 0.0, 0.0]), "9 2 0"),
-            ("C", make_file(1, 2, [0.0, -1.0, -1.0, 0.0]), "9 1 0"), ("F", make_file(1, 1, [2.0 ** 1022]), "10 0 0"),
-            ("G", make_file(2, 1, [0.0]), "7 1 1"), ("J", make_file(1, 2, [1.0, NAN, 5.0, 1.0]), "6 1 2"),
-            ("a signalling NaN", make_file_words(1, 1, [0x7ff0000000000001]), "6 1 1"),
-            ("a cut row", make_file(1, 2, P_SHEET)[:-1], "11 2 0"), ("n = 33", record(1, b"\1\0\x21\0"), "12 0 0"),
-            ("reading 3", record(1, b"\3\0\1\0"), "12 0 0"), ("more bytes", longest + b"\0", "14 0 0"),
+            ("nothing", b"", "11 0 0"),
+            ("a way in and none out", make_file(1, 2, 0, [1.0, -1.0, 0.0, 0.0]), "9 2 0"),
+            ("C", make_file(1, 2, 0, [0.0, -1.0, -1.0, 0.0]), "9 1 0"),
+            ("F", make_file(1, 1, 1, [2.0 ** 1022]), "10 0 0"), ("G", make_file(2, 1, 0, [0.0]), "7 1 1"),
+            ("J", make_file(1, 2, -1, [1.0, NAN, 5.0, 1.0]), "6 1 2"),
+            ("a signalling NaN", make_file_words(1, 1, 0, [0x7ff0000000000001]), "6 1 1"),
+            ("a cut row", make_file(1, 2, 0, P_SHEET)[:-1], "11 2 0"), ("n = 33", make_head(1, 33, 0), "12 0 0"),
+            ("n = 33 by document 01", record(1, b"\1\0\x21\0"), "12 0 0"),
+            ("reading 3", record(1, b"\3\0\1\0"), "12 0 0"), ("e = 513", make_file(1, 2, 513, P_SHEET), "12 0 0"),
+            ("e = -513", make_file(1, 2, -513, P_SHEET), "12 0 0"),
+            ("a head of five bytes", record(1, b"\1\0\1\0\0"), "12 0 0"), ("more bytes", longest + b"\0", "14 0 0"),
             ("many more bytes", longest + bytes(9000), "14 0 0"),
-            ("length 8454", struct.pack("<IH", 8454, 2) + bytes(10000), "11 0 0"),
-            ("length 8453", struct.pack("<IH", 8453, 2) + bytes(10000), "12 0 0")]:
+            ("length 8456", struct.pack("<IH", 8456, 2) + bytes(10000), "11 0 0"),
+            ("length 8455", struct.pack("<IH", 8455, 2) + bytes(10000), "12 0 0")]:
         check.equal(f"dwell of {what}", dwell(data), f"refused {line}\n")
 
 
@@ -1758,7 +1985,7 @@ class Worst:
 
 def check_accuracy(check: Checks, worst: Worst, n: int, sheet: list[float]) -> bool:
     """An accepted table keeps the accuracy rule; a sheet made to pass 6 to 9 is refused with 10 alone."""
-    got = table(worst.reading, n, sheet, n * n)
+    got = table(worst.reading, n, check.unit(), sheet, n * n)
     if isinstance(got, Refused):
         check.equal("the only refusal", got, Refused(10))
         worst.out_of_range += 1
@@ -1794,7 +2021,7 @@ def test_random_sheets(check: Checks, rng: random.Random, long: bool) -> None:
         for _ in range(30):
             n = rng.randint(1, 5)
             sheet = random_sheet(rng, reading, n, random_style(rng, 30))
-            got = table(reading, n, sheet, n * n)
+            got = table(reading, n, check.unit(), sheet, n * n)
             check.gives("entries of a table", reading, n, sheet, got if isinstance(got, Refused) else got.entries)
         print(worst.line(), flush=True)
 
@@ -1812,7 +2039,7 @@ def check_exact_among_idle(check: Checks, rng: random.Random, worst: Worst, n: i
     worst.edges += pair is not None
     for numbers in [wide, *(pair or ())]:
         if check_accuracy(check, worst, total, numbers):
-            entries = table(LEAVING_RATES, total, numbers, total * total).entries
+            entries = table(LEAVING_RATES, total, check.unit(), numbers, total * total).entries
             check.true("plus zero in idle rows and columns", all(bits_of(entries[i * total + j]) == 0 for i, j in zero))
 
 
@@ -1854,7 +2081,10 @@ def self_test(long: bool) -> int:
         test_moving_documents(check)
         test_moving_order(check)
         test_moving_ends(check)
+        test_units(check)
+        test_moving_units(check)
         test_file(check, rng)
+        test_units_of_files(check)
         test_saving(check, rng)
         test_dwell(check)
         test_exact_side(check, rng)
@@ -1874,8 +2104,9 @@ def self_test(long: bool) -> int:
 
 USAGE = """usage: reference.py COMMAND
   dwell < FILE               print what the dwell program prints for this sheet file
-  file READING N NUMBER...   write a sheet file to standard output; a number is a decimal or hexadecimal
-                             float (-0.5, -0x1p-1022, nan, inf) or a word of 0x and 16 hexadecimal digits
+  file READING N E NUMBER... write a sheet file, its unit being 2^E seconds, to standard output; a number is a
+                             decimal or hexadecimal float (-0.5, -0x1p-1022, nan, inf) or a word of 0x and 16
+                             hexadecimal digits
   accuracy < FILE            print for each entry: row, column, bits, its error in roundings (units of
                              2^-53) and in allowances, and whether the accuracy rule holds
   --self-test [--long]       check this reference; --long takes minutes and goes through every n up to 32
@@ -1905,12 +2136,13 @@ def print_accuracy(data: bytes) -> int:
 
 
 def write_file(arguments: list[str]) -> int:
-    """The file command: reading, n, then n × n numbers."""
+    """The file command: reading, n, e, then n × n numbers."""
     try:
-        reading, n, words = int(arguments[0]), int(arguments[1]), [parse_word(text) for text in arguments[2:]]
+        reading, n, e = (int(text) for text in arguments[:3])
+        words = [parse_word(text) for text in arguments[3:]]
         if len(words) != n * n:
             raise ValueError(f"{n} stages need {n * n} numbers, not {len(words)}")
-        data = make_file_words(reading, n, words)
+        data = make_file_words(reading, n, e, words)
     except (ValueError, OverflowError, struct.error) as error:
         print(f"file: {error}", file=sys.stderr)
         return 2
@@ -1927,7 +2159,7 @@ def main(arguments: list[str]) -> int:
         return 0
     if arguments == ["accuracy"]:
         return print_accuracy(sys.stdin.buffer.read(LONGEST_FILE + 1))
-    if arguments[:1] == ["file"] and len(arguments) >= 3:
+    if arguments[:1] == ["file"] and len(arguments) >= 4:
         return write_file(arguments[1:])
     print(USAGE, end="", file=sys.stdout if arguments == ["--help"] else sys.stderr)
     return 0 if arguments == ["--help"] else 2

@@ -1,7 +1,7 @@
 #!/usr/bin/env python3
 """Sheet files for planners: made from text, shown as text, and dwell's output laid out as a table.
 
-`sheet.py make --help` describes the text forms; document 01 describes the sheet file and the refusals.
+`sheet.py make --help` describes the text forms; documents 01 and 02 describe the sheet file and the refusals.
 Stages are numbered from 0 in the code and from 1 in files and messages.
 """
 from __future__ import annotations
@@ -18,13 +18,17 @@ from decimal import ROUND_UP, Context, Decimal
 from typing import Iterator, NamedTuple, Sequence
 
 LIMIT = 32                 # the most stages of a sheet
-LONGEST_FILE = 8458        # the most bytes of a sheet file
+LONGEST_FILE = 8460        # the most bytes of a sheet file
 LONGEST_TEXT = 1 << 20     # the most bytes read of a text or of dwell's output
 SMALLEST = 2.0 ** -1022    # the smallest size of a number that is not zero
 LEAVING_RATES, MARGINS = 1, 2
 READINGS = {"leaving-rates": LEAVING_RATES, "margins": MARGINS}
 DIAGONAL_WORDS = {"leaves": LEAVING_RATES, "margin": MARGINS}
-FIRST_WORDS = ("reading", "stage", "stages")
+IN_SECONDS, IN_TICKS = 0, -10   # the e of units that have a name; any unit is 2^e seconds
+UNITS = {"seconds": IN_SECONDS, "ticks": IN_TICKS}
+FURTHEST_UNIT = 512             # e is from -512 to 512
+UNIT_WORD = "unit"
+FIRST_WORDS = ("reading", "stage", "stages", UNIT_WORD)
 SEPARATORS = ("\t", ";", ",")   # between the cells of a matrix
 
 
@@ -82,6 +86,29 @@ def number_of(word: int) -> float:
     return struct.unpack("<d", struct.pack("<Q", word))[0]
 
 
+# ==== Units ====
+
+def read_unit(words: Sequence[str]) -> int:
+    """The e of the unit that these words say; ValueError says what is wrong."""
+    if len(words) == 1 and words[0] in UNITS:
+        return UNITS[words[0]]
+    power = re.fullmatch(r"2\^([+-]?[0-9]{1,3}) seconds", " ".join(words))
+    if power is None or abs(int(power[1])) > FURTHEST_UNIT:
+        raise ValueError(f"the unit is 'seconds', 'ticks' or '2^E seconds' with E from -{FURTHEST_UNIT} to "
+                         f"{FURTHEST_UNIT}")
+    return int(power[1])
+
+
+def unit_words(e: int) -> str:
+    """The words for a unit, which read_unit reads."""
+    return next((words for words, of_words in UNITS.items() if of_words == e), f"2^{e} seconds")
+
+
+def unit_heading(e: int) -> str:
+    """What a table counts."""
+    return {IN_SECONDS: "Seconds", IN_TICKS: "Ticks of 1/1,024 second"}.get(e, f"Units of 2^{e} seconds")
+
+
 # ==== What a text says ====
 
 class Given(NamedTuple):
@@ -94,7 +121,9 @@ class Given(NamedTuple):
 class Draft:
     """What a text has said so far, with the lines that said it."""
     source: str
-    reading: int
+    reading: int = 0                                    # 0 until it is said
+    e: int = IN_SECONDS
+    unit_line: int = 0                                  # where the unit is said, 0 where it is not
     names: list[str] = field(default_factory=list)
     lines: list[int] = field(default_factory=list)      # where each stage is named, or has its row
     rates: dict[tuple[int, int], Given] = field(default_factory=dict)
@@ -103,6 +132,16 @@ class Draft:
     def problem(self, line: int, message: str) -> Problem:
         """A problem with its place."""
         return problem_at(self.source, line, message)
+
+    def take_unit(self, words: Sequence[str], line: int, hint: str = "") -> None:
+        """Takes the unit; a hint stands behind what is wrong."""
+        if self.unit_line:
+            raise self.problem(line, f"the unit is given twice (first on line {self.unit_line}){hint}")
+        try:
+            self.e = read_unit(words)
+        except ValueError as error:
+            raise self.problem(line, f"{error}{hint}") from None
+        self.unit_line = line
 
     def add_stage(self, name: str, line: int) -> None:
         """Takes one more stage."""
@@ -177,7 +216,7 @@ def read_text(source: str, data: bytes) -> Draft:
             return read_lines(source, lines)
         if separator_of(line) is None or (first in FIRST_WORDS and "\t" not in line):
             raise problem_at(source, at, "a text begins with 'reading leaving-rates', 'reading margins' or "
-                                         "a header row of stage names")
+                                         "a header row of stage names, which a row with the unit may precede")
         return read_matrix(source, lines)
     raise problem_at(source, len(lines), "the text is empty")
 
@@ -216,7 +255,7 @@ def split_line(source: str, at: int, line: str) -> list[str]:
 
 
 def read_lines(source: str, lines: Sequence[str]) -> Draft:
-    """The draft of a text in lines: the reading first, then stages, rates and leaving rates or margins."""
+    """The draft of a text in lines: the reading first, then the unit, stages, rates and leaving rates or margins."""
     draft: Draft | None = None
     for at, line in enumerate(lines, 1):
         words = split_line(source, at, line)
@@ -236,13 +275,18 @@ def take_reading(source: str, at: int, words: Sequence[str]) -> int:
     return READINGS[words[1]]
 
 
+STAGE_OF_THIS_NAME = " (a stage of this name stands in quotes)"
+
+
 def take_line(draft: Draft, at: int, line: str, words: Sequence[str]) -> None:
     """Takes one line after the reading."""
     if len(words) == 4 and words[1] == "->":
         i, j = (draft.stage(bare(word), at) for word in (words[0], words[2]))
         draft.add_rate(i, j, words[3], at)
     elif words[0] == "reading":
-        raise draft.problem(at, "the reading is given twice (a stage of this name stands in quotes)")
+        raise draft.problem(at, f"the reading is given twice{STAGE_OF_THIS_NAME}")
+    elif words[0] == UNIT_WORD:
+        draft.take_unit(words[1:], at, STAGE_OF_THIS_NAME)
     elif words[0] in ("stage", "stages"):
         take_stages(draft, at, words)
     elif len(words) == 3 and words[1] in DIAGONAL_WORDS:
@@ -316,33 +360,42 @@ def rows_of(source: str, lines: Sequence[str]) -> Iterator[tuple[int, list[str]]
 
 
 def read_matrix(source: str, lines: Sequence[str]) -> Draft:
-    """The draft of a matrix: a header row with the names, then a row for each stage."""
-    draft: Draft | None = None
-    header = 1
+    """The draft of a matrix: a row with the unit if there is one, a header row with the names, then a row for each
+    stage."""
+    draft = Draft(source)
+    header = 0
     seen: set[int] = set()
     for at, cells in rows_of(source, lines):
-        if draft is None:
-            header, draft = at, take_header(source, at, cells)
-        else:
+        if header:
             take_row(draft, at, cells, seen)
-    if draft is None:
-        raise problem_at(source, len(lines), "the text is empty")
+        elif is_unit_row(cells):
+            draft.take_unit(" ".join(cells[1:]).lower().split(), at)
+        else:
+            take_header(draft, at, cells)
+            header = at
+    if not header:
+        raise problem_at(source, len(lines), "no header row of stage names follows the unit" if draft.unit_line
+                         else "the text is empty")
     for i, name in enumerate(draft.names):
         if i not in seen:
             raise problem_at(source, header, f"stage {name!r} has no row")
     return draft
 
 
-def take_header(source: str, at: int, cells: Sequence[str]) -> Draft:
-    """The draft of a header row: any first cell, the names, and 'leaves' or 'margin' as the last."""
+def is_unit_row(cells: Sequence[str]) -> bool:
+    """Whether a row before the stages says the unit; a header row may have any first cell."""
+    return cells[0].lower() == UNIT_WORD and cells[-1].lower() not in DIAGONAL_WORDS
+
+
+def take_header(draft: Draft, at: int, cells: Sequence[str]) -> None:
+    """Takes a header row: any first cell, the names, and 'leaves' or 'margin' as the last."""
     last = cells[-1].lower()
     if last not in DIAGONAL_WORDS or len(cells) < 3:
-        raise problem_at(source, at, "a header row has a first cell, the stage names, and 'leaves' or 'margin' "
-                                     "as its last cell")
-    draft = Draft(source, DIAGONAL_WORDS[last])
+        raise draft.problem(at, "a header row has a first cell, the stage names, and 'leaves' or 'margin' "
+                                "as its last cell")
+    draft.reading = DIAGONAL_WORDS[last]
     for name in cells[1:-1]:
         draft.add_stage(name, at)
-    return draft
 
 
 def take_row(draft: Draft, at: int, cells: Sequence[str], seen: set[int]) -> None:
@@ -350,6 +403,8 @@ def take_row(draft: Draft, at: int, cells: Sequence[str], seen: set[int]) -> Non
     n = len(draft.names)
     if len(cells) == 1 and cells[0] not in draft.names and is_line(cells[0]):
         raise draft.problem(at, "a line of the other form stands in a matrix (a text keeps to one form)")
+    if cells[0] not in draft.names and is_unit_row(cells):
+        raise draft.problem(at, "the row with the unit stands before the header row")
     i = draft.stage(cells[0], at)
     if i in seen:
         raise draft.problem(at, f"stage {cells[0]!r} has two rows (first on line {draft.lines[i]})")
@@ -387,9 +442,10 @@ def is_zero(cell: str) -> bool:
 
 @dataclass(frozen=True)
 class Sheet:
-    """A sheet as its file holds it: n × n numbers by their bits, row by row."""
+    """A sheet as its file holds it, in units of 2^e seconds: n × n numbers by their bits, row by row."""
     reading: int
     n: int
+    e: int
     words: list[int]
 
 
@@ -411,7 +467,11 @@ def sheet_of(draft: Draft) -> Sheet:
         if i not in draft.diagonal and draft.reading == MARGINS:
             raise problem_at(draft.source, draft.lines[i], f"stage {name!r} has no margin")
         numbers[i * n + i] = draft.diagonal[i].number if i in draft.diagonal else 0.0
-    return Sheet(draft.reading, n, [word_of(number) for number in numbers])
+    return Sheet(draft.reading, n, draft.e, [word_of(number) for number in numbers])
+
+
+HEAD = "<HHh"           # reading, n and a signed e
+SHORT_HEAD = "<HH"      # a head from before units, which is still read: e is 0
 
 
 def record(kind: int, payload: bytes) -> bytes:
@@ -423,7 +483,7 @@ def file_of(sheet: Sheet) -> bytes:
     """The sheet file: a head, then the rows."""
     n = sheet.n
     rows = [record(2, struct.pack(f"<H{n}Q", i + 1, *sheet.words[i * n:(i + 1) * n])) for i in range(n)]
-    return record(1, struct.pack("<HH", sheet.reading, n)) + b"".join(rows)
+    return record(1, struct.pack(HEAD, sheet.reading, n, sheet.e)) + b"".join(rows)
 
 
 def take_record(data: bytes, at: int) -> tuple[int, bytes, int] | None:
@@ -435,15 +495,27 @@ def take_record(data: bytes, at: int) -> tuple[int, bytes, int] | None:
     return (kind, data[at + 6:end], end) if end <= len(data) else None
 
 
+def read_head(payload: bytes) -> tuple[int, int, int] | None:
+    """Reading, n and e of the head of a file; None where it is no head."""
+    forms = {struct.calcsize(form): form for form in (SHORT_HEAD, HEAD)}
+    if len(payload) not in forms:
+        return None
+    reading, n, *unit = struct.unpack(forms[len(payload)], payload)
+    e = unit[0] if unit else IN_SECONDS
+    fits = reading in READINGS.values() and 1 <= n <= LIMIT and abs(e) <= FURTHEST_UNIT
+    return (reading, n, e) if fits else None
+
+
 def read_file(data: bytes) -> Sheet | Refused:
     """The sheet of a file, or the refusal that dwell prints for it (11 to 14)."""
     head = take_record(data, 0)
     if head is None:
         return Refused(11)
     kind, payload, at = head
-    reading, n = struct.unpack("<HH", payload) if len(payload) == 4 else (0, 0)
-    if kind != 1 or reading not in READINGS.values() or not 1 <= n <= LIMIT:
+    said = read_head(payload) if kind == 1 else None
+    if said is None:
         return Refused(12)
+    reading, n, e = said
     words: list[int] = []
     for row in range(1, n + 1):
         due = take_record(data, at)
@@ -453,7 +525,7 @@ def read_file(data: bytes) -> Sheet | Refused:
         if kind != 2 or len(payload) != 2 + 8 * n or struct.unpack_from("<H", payload)[0] != row:
             return Refused(13, row)
         words += struct.unpack_from(f"<{n}Q", payload, 2)
-    return Sheet(reading, n, words) if at == len(data) else Refused(14)
+    return Sheet(reading, n, e, words) if at == len(data) else Refused(14)
 
 
 # ==== A sheet as text ====
@@ -462,7 +534,7 @@ def show_text(sheet: Sheet, names: Sequence[str]) -> str:
     """A sheet in the form with a line for each rate."""
     reading = next(word for word, reading in READINGS.items() if reading == sheet.reading)
     quoted = [quote(name) for name in names]
-    lines = [f"reading {reading}"]
+    lines = [f"reading {reading}", f"{UNIT_WORD} {unit_words(sheet.e)}"]
     lines += ["stages " + " ".join(quoted[at:at + 8]) for at in range(0, sheet.n, 8)]
     for i in range(sheet.n):
         of_stage = list(stage_lines(sheet, quoted, i))
@@ -497,9 +569,10 @@ def quote(name: str) -> str:
 
 @dataclass(frozen=True)
 class Table:
-    """The table that dwell prints, row by row, with its allowance."""
+    """The table that dwell prints, in units of 2^e seconds, row by row, with its allowance."""
     n: int
     allowance: int
+    e: int
     numbers: list[float]
 
 
@@ -509,14 +582,14 @@ def read_answer(source: str, data: bytes) -> Table | Refused:
     refused = re.fullmatch(r"refused ([0-9]{1,9}) ([0-9]{1,9}) ([0-9]{1,9})", lines[0])
     if refused and len(lines) == 1:
         return Refused(*map(int, refused.groups()))
-    head = re.fullmatch(r"seconds ([0-9]{1,2}) ([0-9]{1,9})", lines[0])
-    if head is None or not 1 <= int(head[1]) <= LIMIT:
+    head = re.fullmatch(r"seconds ([0-9]{1,2}) ([0-9]{1,9}) (0|-?[1-9][0-9]{0,2})", lines[0])
+    if head is None or not 1 <= int(head[1]) <= LIMIT or abs(int(head[3])) > FURTHEST_UNIT:
         raise problem_at(source, 1, "this is not dwell's output ('seconds' or 'refused' and numbers)")
     n = int(head[1])
     numbers = [read_entry(source, lines, n, place) for place in range(n * n)]
     if len(lines) > 1 + n * n:
         raise problem_at(source, n * n + 2, "dwell's output goes on after its last entry")
-    return Table(n, int(head[2]), numbers)
+    return Table(n, int(head[2]), int(head[3]), numbers)
 
 
 def read_entry(source: str, lines: Sequence[str], n: int, place: int) -> float:
@@ -537,8 +610,8 @@ def table_text(table: Table, names: Sequence[str], hexadecimal: bool) -> str:
     blocks += [[name, *align(texts[j::table.n])] for j, name in enumerate(names)]
     columns = [pad(block) for block in blocks]
     lines = ["  ".join(cells).rstrip() for cells in zip(*columns)]
-    return "\n".join(["Seconds at each stage (columns) for a request that enters at the stage on the left:", "",
-                      *lines, "", *idle_lines(table, names), accuracy_line(table.allowance)]) + "\n"
+    heading = f"{unit_heading(table.e)} at each stage (columns) for a request that enters at the stage on the left:"
+    return "\n".join([heading, "", *lines, "", *idle_lines(table, names), accuracy_line(table.allowance)]) + "\n"
 
 
 def idle_lines(table: Table, names: Sequence[str]) -> list[str]:
@@ -585,11 +658,13 @@ REASONS = {
     10: "a step of the calculation leaves the range of binary64 numbers, since some rates are too large, "
         "too small or too far apart",
     11: "the file ends before {record} is complete",
-    12: "the file does not begin with the head of a sheet (reading 1 or 2, and 1 to 32 stages)",
+    12: "the file does not begin with the head of a sheet (reading 1 or 2, 1 to 32 stages, a unit of 2^E seconds "
+        "with E from -512 to 512), or a call was handed a unit out of that range",
     13: "the file has something else where {record} is due (another kind, length or row number)",
     14: "the file goes on after its last row",
     15: "the power of two to move by is not from -512 to 512",
     16: "a number that is moved would be larger than the largest binary64 number, or smaller than 2^-1022",
+    17: "the unit of the moved sheet would be out of range (2^E seconds, E from -512 to 512)",
 }
 
 
@@ -624,23 +699,26 @@ A text has one of two forms.  Blank lines are left out in both.
 
 Lines, the reading first; # begins a comment:
   reading leaving-rates          or: reading margins
+  unit ticks                     the time unit: seconds, ticks, or 2^E seconds with E from -512 to 512; a tick
+                                 is 2^-10 seconds, 1/1,024 second; without this line the unit is the second
   stages intake signer           the stages in their order, 1 to 32; several such lines may stand
   stage "key ceremony"           one stage; a name with spaces stands in double quotes
-  intake -> signer 0.25          a rate per second from one stage to another
+  intake -> signer 0.25          a rate per unit from one stage to another
   signer leaves 1e-6             a leaving rate (reading leaving-rates)
   signer margin 0.5              a margin (reading margins)
 
 A matrix, as a spreadsheet exports it, with commas, tabs or semicolons between the cells; a row that
 begins with # is a comment:
+  unit,ticks                     the time unit, as above; without this row the unit is the second
   from,intake,signer,leaves      any first cell, the stages in their order, 'leaves' or 'margin'
   intake,,0.25,                  a row for each stage: its rates, then its leaving rate or margin
   signer,0.05,,1e-6              an empty cell, a dash or a missing cell at the end is zero
 
-Rates are typed as positive numbers, decimal (0.25, 1e-6) or hexadecimal (0x1p-20), and rounded to the
-nearest binary64 number.  A missing rate or leaving rate is zero; a missing margin is an error.  With
-leaving rates, a stage that has none, and no rate to or from another stage, is idle: it keeps its place,
-and its row and column of the table are zero.  The file is UTF-8 text.  Errors are one line, FILE:LINE:
-and what is wrong, with exit status 1."""
+Rates are per unit, and the table counts units.  Rates are typed as positive numbers, decimal (0.25, 1e-6)
+or hexadecimal (0x1p-20), and rounded to the nearest binary64 number.  A missing rate or leaving rate is
+zero; a missing margin is an error.  With leaving rates, a stage that has none, and no rate to or from
+another stage, is idle: it keeps its place, and its row and column of the table are zero.  The file is
+UTF-8 text.  Errors are one line, FILE:LINE: and what is wrong, with exit status 1."""
 
 OVERVIEW = """\
 From numbers in a text file or a spreadsheet to a table of seconds:
@@ -728,14 +806,15 @@ def parser() -> argparse.ArgumentParser:
     make.add_argument("text", metavar="TEXT", help="a text in one of the forms below, - for standard input")
     make.set_defaults(run=run_make)
     show = commands.add_parser("show", help="print a sheet file as a text",
-                               description="Prints a sheet file as a text of lines. A number that make cannot "
-                                           "have written is followed by its bits in a comment.")
+                               description="Prints a sheet file as a text of lines, its unit among them. A number "
+                                           "that make cannot have written is followed by its bits in a comment.")
     show.add_argument("file", metavar="FILE", help="a sheet file, - for standard input")
     show.set_defaults(run=run_show)
     table = commands.add_parser("table", help="print dwell's output as an aligned table, or a refusal in words",
-                                description="Prints dwell's output as an aligned table in decimal seconds, the "
-                                            "shortest digits that read back, and names idle stages below it. A "
-                                            "refusal becomes a sentence on standard error with exit status 1.")
+                                description="Prints dwell's output as an aligned table of decimals, the shortest "
+                                            "digits that read back, says their unit above it and names idle stages "
+                                            "below it. A refusal becomes a sentence on standard error with exit "
+                                            "status 1.")
     table.add_argument("file", metavar="FILE", nargs="?", default="-",
                        help="what dwell printed; standard input without it or for -")
     table.add_argument("--hex", action="store_true", help="print exact hexadecimal floats (C99) instead")

@@ -6,6 +6,7 @@ the tests say which calls.  `tools/fuzz.py` makes many random ones.
 """
 from __future__ import annotations
 
+import itertools
 import os
 import random
 import re
@@ -19,10 +20,10 @@ import unittest
 from pathlib import Path
 from typing import NamedTuple, Optional, Sequence
 
-from fuzz import EXPORTS, POWERS_OUT_OF_RANGE
+from fuzz import EXPORTS
 from hosts import ARCHIVE, CC, HEADER, PLACES, ROOT, TEXT_BYTES, Calls, Library, Told, declared, must, run
 import reference
-from reference import LARGEST, Moved, Refused, bits_of, number_of
+from reference import LARGEST, POWERS_OUT_OF_RANGE, UNITS, Moved, Refused, Saved, bits_of, number_of
 
 STRICT = ["-Wall", "-Wextra", "-pedantic", "-Werror", "-I", str(ROOT / "include")]
 NAN, INF = float("nan"), float("inf")
@@ -46,24 +47,33 @@ def tearDownModule() -> None:
 
 
 class HostTest(unittest.TestCase):
-    """A test with random numbers of its own, and the calls."""
+    """A test with random numbers of its own, and the calls.  A sheet is in units of 2^e seconds; where a test does not
+    say e, each call takes another one of its range."""
 
     def setUp(self) -> None:
-        """Starts the random numbers anew."""
+        """Starts the random numbers and the units anew."""
         self.rng = random.Random(20240607)
+        self.units = itertools.cycle(UNITS)
         self.calls = Calls(Built.library, self.rng)
 
-    def table(self, reading: int, n: int, sheet: Sequence[float], room: Optional[int] = None) -> Told:
+    def unit(self, e: Optional[int]) -> int:
+        """This e, or the next one."""
+        return next(self.units) if e is None else e
+
+    def table(self, reading: int, n: int, sheet: Sequence[float], room: Optional[int] = None,
+              e: Optional[int] = None) -> Told:
         """The whole table of a sheet with an area of so many places (n × n if not said)."""
-        return self.calls.table(reading, n, [bits_of(x) for x in sheet], n * n if room is None else room)
+        return self.calls.table(reading, n, self.unit(e), [bits_of(x) for x in sheet], n * n if room is None else room)
 
-    def entry(self, reading: int, n: int, sheet: Sequence[float], i: int, j: int) -> Told:
+    def entry(self, reading: int, n: int, sheet: Sequence[float], i: int, j: int, e: Optional[int] = None) -> Told:
         """Entry (i, j) of a sheet."""
-        return self.calls.entry(reading, n, [bits_of(x) for x in sheet], i, j)
+        return self.calls.entry(reading, n, self.unit(e), [bits_of(x) for x in sheet], i, j)
 
-    def column(self, reading: int, n: int, sheet: Sequence[float], stage: int, room: Optional[int] = None) -> Told:
+    def column(self, reading: int, n: int, sheet: Sequence[float], stage: int, room: Optional[int] = None,
+               e: Optional[int] = None) -> Told:
         """The column of a stage with an area of so many places (n if not said)."""
-        return self.calls.column(reading, n, [bits_of(x) for x in sheet], stage, n if room is None else room)
+        words = [bits_of(x) for x in sheet]
+        return self.calls.column(reading, n, self.unit(e), words, stage, n if room is None else room)
 
     def columns(self, n: int, sheet: Sequence[float]) -> list[Told]:
         """Every column of a sheet of reading 1."""
@@ -82,15 +92,19 @@ class HostTest(unittest.TestCase):
         self.assertEqual(self.calls.read("yulanbowls_read_words", data, room), answer)
         return answer
 
-    def save(self, reading: int, n: int, words: Sequence[int], room: int) -> Told:
+    def save(self, reading: int, n: int, words: Sequence[int], room: int, e: Optional[int] = None) -> Told:
         """A sheet saved as numbers and as words, each in so many bytes."""
-        answer = self.calls.save("yulanbowls_save_numbers", reading, n, words, room)
-        self.assertEqual(self.calls.save("yulanbowls_save_words", reading, n, words, room), answer)
+        e = self.unit(e)
+        answer = self.calls.save("yulanbowls_save_numbers", reading, n, e, words, room)
+        self.assertEqual(self.calls.save("yulanbowls_save_words", reading, n, e, words, room), answer)
         return answer
 
-    def move(self, reading: int, n: int, sheet: Sequence[float], k: int, room: Optional[int] = None) -> Told:
-        """A sheet moved by 2^k into a second area of so many places (n × n if not said)."""
-        return self.calls.move(reading, n, [bits_of(x) for x in sheet], k, n * n if room is None else room)
+    def move(self, reading: int, n: int, sheet: Sequence[float], k: int, room: Optional[int] = None,
+             e: Optional[int] = None) -> Told:
+        """A sheet moved by 2^k into a second area of so many places (n × n if not said); an e that is not said is one
+        for which e + k is in its range."""
+        e = self.rng.choice(reference.units_for_move(k)) if e is None else e
+        return self.calls.move(reading, n, e, [bits_of(x) for x in sheet], k, n * n if room is None else room)
 
     def report(self, data: bytes, room: int = TEXT_BYTES) -> bytes:
         """The report on a file in an area of so many bytes."""
@@ -130,34 +144,40 @@ def random_sheets(rng: random.Random, stages: Sequence[int], widest: int = 300) 
             for n in stages for reading in (1, 2)]
 
 
-def file_of(sheet: Sheet) -> bytes:
+def file_of(sheet: Sheet, e: int = 0) -> bytes:
     """The sheet file of a sheet."""
-    return reference.make_file(*sheet)
+    return reference.make_file(sheet.reading, sheet.n, e, sheet.numbers)
 
 
 def good_files(rng: random.Random) -> list[bytes]:
-    """Files of every small size and of the longest, with words of all kinds."""
-    files = [file_of(sheet) for sheet in SHEETS + random_sheets(rng, [1, 2, 3, 5, 8, 32])]
+    """Files of every small size and of the longest, with words of all kinds, some with document 01's head."""
+    files = [file_of(sheet, e) if e is not None else reference.make_short_file(*sheet)
+             for sheet, e in zip(SHEETS + random_sheets(rng, [1, 2, 3, 5, 8, 32]), itertools.cycle([*UNITS, None]))]
     for n in (1, 4, 32):
         words = [rng.choice([rng.getrandbits(64), 0x7ff0000000000001 + rng.getrandbits(40)]) for _ in range(n * n)]
-        files.append(reference.make_file_words(rng.choice([1, 2]), n, words))
+        files.append(reference.make_file_words(rng.choice([1, 2]), n, reference.random_unit(rng), words))
+        files.append(reference.make_short_file_words(rng.choice([1, 2]), n, words))
     return files
 
 
 def bad_files() -> list[bytes]:
-    """Files that are refused, each for another reason."""
-    whole = file_of(Sheet(1, 2, [1.0, -1.0, -1.0, 0.0]))
-    head, rows = whole[:10], whole[10:]
-    row = len(rows) // 2
-    files = [b"", whole[:5], whole[:6], whole[:9], head, head + rows[:5], head + rows[:row - 1], whole[:-1],
-             whole + b"\0", whole + bytes(9000), struct.pack("<IH", 9000, 2) + bytes(10000), rows, head + head + rows,
-             head + rows[row:] + rows[:row], head + rows[:row] + rows[:row]]
-    for at, form, value in [(0, "<I", 5), (0, "<I", 2 ** 32 - 1), (4, "<H", 2), (6, "<H", 0), (6, "<H", 3),
-                            (8, "<H", 0), (8, "<H", 33), (10, "<I", 0), (10, "<I", 17), (14, "<H", 1), (16, "<H", 2),
-                            (16, "<H", 0), (10 + row, "<I", 19), (16 + row, "<H", 1)]:
-        changed = bytearray(whole)
-        struct.pack_into(form, changed, at, value)
-        files.append(bytes(changed))
+    """Files that are refused, with either head, each for another reason."""
+    sheet = Sheet(1, 2, [1.0, -1.0, -1.0, 0.0])
+    files = [b"", struct.pack("<IH", 9000, 2) + bytes(10000), file_of(sheet, 513), file_of(sheet, -513)]
+    for whole in (file_of(sheet, -10), reference.make_short_file(*sheet)):
+        rows = whole[-48:]
+        at_rows, row = len(whole) - len(rows), len(rows) // 2
+        head = whole[:at_rows]
+        files += [whole[:5], whole[:6], head[:-1], head, head + rows[:5], head + rows[:row - 1], whole[:-1],
+                  whole + b"\0", whole + bytes(9000), rows, head + head + rows, head + rows[row:] + rows[:row],
+                  head + rows[:row] + rows[:row]]
+        for at, form, value in [(0, "<I", 5), (0, "<I", 7), (0, "<I", 2 ** 32 - 1), (4, "<H", 2), (6, "<H", 0),
+                                (6, "<H", 3), (8, "<H", 0), (8, "<H", 33), (at_rows, "<I", 0), (at_rows, "<I", 17),
+                                (at_rows + 4, "<H", 1), (at_rows + 6, "<H", 2), (at_rows + 6, "<H", 0),
+                                (at_rows + row, "<I", 19), (at_rows + 6 + row, "<H", 1)]:
+            changed = bytearray(whole)
+            struct.pack_into(form, changed, at, value)
+            files.append(bytes(changed))
     return files
 
 
@@ -459,10 +479,11 @@ class FileTest(HostTest):
 
     def test_cut_and_changed_files(self) -> None:
         """A file cut anywhere, and one with any byte changed."""
-        data = file_of(Sheet(2, 3, [2.0, 0.0, -1.0, 0.0, 4.0, 0.0, 0.0, 0.0, 1.0]))
-        for at in range(len(data)):
-            self.file(data[:at])
-            self.file(data[:at] + bytes([data[at] ^ 1 << self.rng.randrange(8)]) + data[at + 1:])
+        sheet = Sheet(2, 3, [2.0, 0.0, -1.0, 0.0, 4.0, 0.0, 0.0, 0.0, 1.0])
+        for data in (file_of(sheet, -10), reference.make_short_file(*sheet)):
+            for at in range(len(data)):
+                self.file(data[:at])
+                self.file(data[:at] + bytes([data[at] ^ 1 << self.rng.randrange(8)]) + data[at + 1:])
 
 
 class SaveTest(HostTest):
@@ -477,7 +498,7 @@ class SaveTest(HostTest):
         """Sheets of every size, with room enough, just enough and too little."""
         for reading in (1, 2):
             for n in range(1, 33):
-                needed = 10 + n * (8 * n + 8)
+                needed = 12 + n * (8 * n + 8)
                 for room in (needed, needed + 1, needed + 99):
                     self.assertEqual(self.save(reading, n, self.words(n), room), (0, 0, 0))
                 for room in (needed - 1, 9, 0):
@@ -560,7 +581,7 @@ class MoveTest(HostTest):
                 sheet = reference.sheet_to_move(self.rng, reading, n)
                 k = reference.random_power(self.rng, sheet)
                 answers.append(self.move(reading, n, sheet, k, n * n + n))
-                moved = reference.move(reading, n, sheet, k, n * n)
+                moved = reference.move(reading, n, reference.IN_SECONDS, sheet, k, n * n)
                 if isinstance(moved, Moved):
                     self.assertEqual(self.move(reading, n, moved.numbers, -k), (0, 0, 0))
         self.assertEqual(set(answers), {(0, 0, 0), (16, 0, 0)})
@@ -611,6 +632,88 @@ class MoveTest(HostTest):
         """NaN patterns of every kind are 6."""
         for word in (0x7ff0000000000001, 0x7ff8000000000000, 0xffffffffffffffff, 0xfff0000000000001):
             self.assertEqual(self.move(1, 1, [number_of(word)], 1), (6, 1, 1))
+
+
+class UnitTest(HostTest):
+    """The unit of a sheet: e in the calls, in the heads of files, and after a move."""
+    P = [1.0, -1.0, -1.0, 0.0]
+
+    def test_out_of_range(self) -> None:
+        """12 in every service on a sheet, after 1 and 2 and before 3, 4, 5 and 6."""
+        nans = [NAN] * 4
+        for e in POWERS_OUT_OF_RANGE:
+            for sheet in ([], nans[:3], nans, self.P, nans + nans):
+                words = [bits_of(x) for x in sheet]
+                for room in (0, 60):
+                    self.assertEqual(self.table(1, 2, sheet, room, e), (12, 0, 0))
+                    self.assertEqual(self.column(1, 2, sheet, 0, room, e), (12, 0, 0))
+                    self.assertEqual(self.save(2, 2, words, room, e), (12, 0, 0))
+                    for k in (-1, 0, 1, 600):
+                        self.assertEqual(self.move(1, 2, sheet, k, room, e), (12, 0, 0))
+                self.assertEqual(self.entry(2, 2, sheet, 0, 3, e), (12, 0, 0))
+                self.assertEqual(self.entry(1, 2, sheet, 1, 1, e), (12, 0, 0))
+            for n in (0, 33, 2 ** 63):
+                self.assertEqual(self.table(1, n, nans, 0, e), (2, 0, 0))
+                self.assertEqual(self.column(1, n, nans, 0, 0, e), (2, 0, 0))
+                self.assertEqual(self.entry(1, n, nans, 0, 0, e), (2, 0, 0))
+                self.assertEqual(self.save(1, n, [], 0, e), (2, 0, 0))
+                self.assertEqual(self.move(1, n, nans, 600, 0, e), (2, 0, 0))
+            self.assertEqual(self.column(2, 2, self.P, 1, 2, e), (1, 0, 0))
+
+    def test_every_unit(self) -> None:
+        """Every e from -514 to 514 in each call and in a file."""
+        words = [bits_of(x) for x in self.P]
+        for e in range(-514, 515):
+            expected = (0, 0, 0) if abs(e) <= 512 else (12, 0, 0)
+            self.assertEqual(self.table(1, 2, self.P, 5, e), expected)
+            self.assertEqual(self.entry(1, 2, self.P, 2, 1, e), expected)
+            self.assertEqual(self.column(1, 2, self.P, 2, 3, e), expected)
+            self.assertEqual(self.save(1, 2, words, 61, e), expected)
+            self.assertEqual(self.move(1, 2, self.P, 0, 5, e), expected)
+            self.assertEqual(self.file(file_of(Sheet(1, 2, self.P), e), 5), expected)
+            self.report(file_of(Sheet(1, 2, self.P), e))
+
+    def test_heads(self) -> None:
+        """Heads of every length up to 9, and every 17th word in the place of e."""
+        rows = reference.make_rows(1, [bits_of(4.0)])
+        accepted = [length for length in range(10)
+                    if self.file(reference.record(1, b"\1\0\1\0\0\0\0\0\0"[:length]) + rows, 1) == (0, 0, 0)]
+        self.assertEqual(accepted, [4, 6])
+        for word in range(0, 65536, 17):
+            head = reference.record(1, struct.pack("<HHH", 2, 1, word))
+            self.assertEqual(self.file(head + rows, 1)[0], 0 if word <= 512 or word >= 65024 else 12)
+
+    def test_loaded_and_saved(self) -> None:
+        """A file that says its unit is saved as its bytes; one that does not, with e = 0 in its head."""
+        for data in good_files(self.rng):
+            loaded = reference.load(data, PLACES)
+            size = reference.file_length(loaded.n)
+            with_unit = data if len(data) == size else struct.pack("<I", 6) + data[4:10] + b"\0\0" + data[10:]
+            saved = reference.save(loaded.reading, loaded.n, loaded.e, loaded.words, size)
+            self.assertEqual(saved, Saved(with_unit))
+            self.assertEqual(self.save(loaded.reading, loaded.n, loaded.words, size, loaded.e), (0, 0, 0))
+
+    def test_moved_unit(self) -> None:
+        """e + k at both ends of its range and past them, from every third e."""
+        for e in range(-512, 513, 3):
+            for k, expected in [(-512 - e, 0), (512 - e, 0), (-513 - e, 17), (513 - e, 17)]:
+                if abs(k) <= 512:
+                    reading, n = self.rng.choice([1, 2]), self.rng.choice([1, 2, 4])
+                    sheet = [1.0 if p % (n + 1) == 0 else -1.5 for p in range(n * n)]
+                    self.assertEqual(self.move(reading, n, sheet, k, n * n + 1, e), (expected, 0, 0))
+
+    def test_order_of_moving(self) -> None:
+        """8 before 15, 15 before 17, 17 before 16."""
+        tiny = 2.0 ** -1074
+        for reading in (1, 2):
+            for sheet, e, k, expected in [
+                    ([1.0, -tiny, 0.0, 1.0], 512, 1, (8, 1, 2)), ([1.0, 0.0, 0.0, LARGEST], 512, 513, (15, 0, 0)),
+                    ([1.0, -SMALLEST, 0.0, 1.0], -512, -513, (15, 0, 0)),
+                    ([1.0, 0.0, 0.0, 1.0], -512, 600, (15, 0, 0)), ([1.0, 0.0, 0.0, 1.0], -512, -2 ** 63, (15, 0, 0)),
+                    ([1.0, 0.0, 0.0, 1.0], 512, 2 ** 63 - 1, (15, 0, 0)),
+                    ([1.0, 0.0, 0.0, LARGEST], 512, 1, (17, 0, 0)), ([1.0, -SMALLEST, 0.0, 1.0], -512, -1, (17, 0, 0)),
+                    ([1.0, 0.0, 0.0, LARGEST], 511, 1, (16, 0, 0)), ([1.0, -SMALLEST, 0.0, 1.0], -511, -1, (16, 0, 0))]:
+                self.assertEqual(self.move(reading, 2, sheet, k, 4, e), expected)
 
 
 class ReportTest(HostTest):
@@ -682,9 +785,10 @@ class LinkTest(HostTest):
 
     def test_constants(self) -> None:
         """The header's sizes are the documents'."""
-        constants = dict(re.findall(r"#define YULANBOWLS_(\w+) (\d+)", HEADER.read_text()))
+        constants = dict(re.findall(r"#define YULANBOWLS_(\w+) \(?(-?\d+)\)?$", HEADER.read_text(), re.MULTILINE))
         self.assertEqual({name: int(value) for name, value in constants.items()},
                          {"STAGES": reference.LIMIT, "NUMBERS": reference.LIMIT ** 2,
+                          "UNIT_LEAST": -reference.FURTHEST_POWER, "UNIT_MOST": reference.FURTHEST_POWER,
                           "FILE_BYTES": reference.LONGEST_FILE, "TEXT_BYTES": TEXT_BYTES})
 
     def test_refusals(self) -> None:
@@ -721,16 +825,17 @@ class LinkTest(HostTest):
         if isinstance(loaded, Refused):
             return 1, reference.refused_line(loaded)
         n, numbers = loaded.n, loaded.numbers
-        answer = reference.table(loaded.reading, n, numbers, PLACES)
+        answer = reference.table(loaded.reading, n, loaded.e, numbers, PLACES)
         if isinstance(answer, Refused):
             return 1, reference.refused_line(answer)
         rows = [" ".join(f"{x:.17g}" for x in answer.entries[i * n:(i + 1) * n]) for i in range(n)]
-        last = reference.entry(loaded.reading, n, numbers, 1, n)
+        last = reference.entry(loaded.reading, n, loaded.e, numbers, 1, n)
         column = " ".join(f"{x:.17g}" for x in answer.entries[n - 1::n])
         return 0, "".join(f"{line}\n" for line in [
-            *rows, f"each within a factor (1 + 2^-53)^{answer.allowance} of the exact number",
-            f"stage 1 to stage {n}: {last.value:.17g} seconds",
-            *([f"seconds at stage {n} from each stage: {column}"] if loaded.reading == 1 else [])])
+            f"times in units of 2^{loaded.e} seconds", *rows,
+            f"each within a factor (1 + 2^-53)^{answer.allowance} of the exact number",
+            f"stage 1 to stage {n}: {last.value:.17g}",
+            *([f"at stage {n} from each stage: {column}"] if loaded.reading == 1 else [])])
 
     def test_example(self) -> None:
         """examples/host.c compiles as C99 without a warning, and prints tables and refusals."""
@@ -753,30 +858,32 @@ class LinkTest(HostTest):
             done = run(host, str(sheet), str(copy))
             self.assertEqual((done.returncode, done.stdout.decode()), (status, text))
             loaded = reference.load(data, PLACES)
-            self.assertEqual(copy.read_bytes(), reference.make_file_words(loaded.reading, loaded.n,
-                                                                          [reference.word_of(x) for x in loaded.numbers]))
+            saved = reference.save_numbers(loaded.reading, loaded.n, loaded.e, loaded.numbers, reference.LONGEST_FILE)
+            self.assertEqual(Saved(copy.read_bytes()), saved)
 
     def test_example_moves(self) -> None:
-        """With a K the example saves the sheet moved by 2^K; a sheet that is not moved is not saved either."""
+        """With a K the example saves the sheet moved by 2^K, in its new unit; a sheet that is not moved is not saved
+        either."""
         host = self.build(str(ROOT / "examples" / "host.c"), CC, "-std=c99")
         sheet, copy = Path(Built.folder.name) / "line.sheet", Path(Built.folder.name) / "copy.sheet"
         powers = [-10, 512, 0, -512, 513, -2 ** 63, 3, 2 ** 63 - 1]
         answers = set()
         for at, data in enumerate(good_files(self.rng)):
             loaded, k = reference.load(data, PLACES), powers[at % len(powers)]
-            moved = reference.move(loaded.reading, loaded.n, loaded.numbers, k, PLACES)
+            moved = reference.move(loaded.reading, loaded.n, loaded.e, loaded.numbers, k, PLACES)
             sheet.write_bytes(data)
             copy.unlink(missing_ok=True)
             done = run(host, str(sheet), str(copy), str(k))
             if isinstance(moved, Moved):
                 self.assertEqual((done.returncode, done.stdout.decode()), self.printed(data))
-                self.assertEqual(copy.read_bytes(), reference.make_file(loaded.reading, loaded.n, moved.numbers))
+                self.assertEqual(copy.read_bytes(),
+                                 reference.make_file(loaded.reading, loaded.n, moved.e, moved.numbers))
                 answers.add(0)
             else:
                 self.assertEqual((done.returncode, done.stdout.decode()), (1, reference.refused_line(moved)))
                 self.assertFalse(copy.exists())
                 answers.add(moved.number)
-        self.assertGreaterEqual(answers, {0, 6, 7, 15, 16})
+        self.assertGreaterEqual(answers, {0, 6, 7, 15, 16, 17})
 
     def test_example_misused(self) -> None:
         """The example tells a file that is not there, too many words, and a K that is no whole number of 64 bits."""

@@ -125,11 +125,13 @@ class ToolTest(unittest.TestCase):
 # ==== Sheets, files and exact values, apart from the tools ====
 
 class Typed(NamedTuple):
-    """A sheet as it is typed: names, rates by pair of stages, leaving rates or margins by stage."""
+    """A sheet as it is typed: names, rates by pair of stages, leaving rates or margins by stage, and the words for its
+    unit, none where it is not said."""
     reading: int
     names: list[str]
     rates: dict[tuple[int, int], str]
     diagonal: dict[int, str]
+    unit: str = ""
 
 
 def value(text: str) -> Fraction:
@@ -151,12 +153,25 @@ def number(word: int) -> float:
     return struct.unpack("<d", struct.pack("<Q", word))[0]
 
 
-def packed(reading: int, n: int, words: Sequence[int]) -> bytes:
-    """A sheet file, packed by document 01."""
-    data = struct.pack("<IHHH", 4, 1, reading, n)
-    for i in range(n):
-        data += struct.pack(f"<IHH{n}Q", 2 + 8 * n, 2, i + 1, *words[i * n:(i + 1) * n])
-    return data
+def packed(reading: int, n: int, words: Sequence[int], e: int = 0) -> bytes:
+    """A sheet file in units of 2^e seconds, packed by documents 01 and 02."""
+    return struct.pack("<IHHHh", 6, 1, reading, n, e) + packed_rows(n, words)
+
+
+def packed_short(reading: int, n: int, words: Sequence[int]) -> bytes:
+    """A sheet file by document 01 alone, which says no unit."""
+    return struct.pack("<IHHH", 4, 1, reading, n) + packed_rows(n, words)
+
+
+def packed_rows(n: int, words: Sequence[int]) -> bytes:
+    """The rows of a sheet file."""
+    return b"".join(struct.pack(f"<IHH{n}Q", 2 + 8 * n, 2, i + 1, *words[i * n:(i + 1) * n]) for i in range(n))
+
+
+def power_of(unit: str) -> int:
+    """The e of the unit of 2^e seconds that these words say."""
+    named = {"": 0, "seconds": 0, "ticks": -10}
+    return named[unit] if unit in named else int(unit.removeprefix("2^").removesuffix(" seconds"))
 
 
 def expected_file(typed: Typed) -> bytes:
@@ -167,18 +182,20 @@ def expected_file(typed: Typed) -> bytes:
         words[i * n + j] = nearest(-value(text)) if value(text) else 0
     for i, text in typed.diagonal.items():
         words[i * n + i] = nearest(value(text))
-    return packed(typed.reading, n, words)
+    return packed(typed.reading, n, words, power_of(typed.unit))
 
 
 def quoted(name: str) -> str:
     """A name in quotes where it has more than letters and digits."""
-    return name if re.fullmatch(r"\w+", name) and name not in ("reading", "stage", "stages") else f'"{name}"'
+    bare = re.fullmatch(r"\w+", name) and name not in ("reading", "stage", "stages", "unit")
+    return name if bare else f'"{name}"'
 
 
 def as_lines(typed: Typed) -> str:
     """A typed sheet as lines."""
     names = [quoted(name) for name in typed.names]
     lines = [f"reading {READING_WORDS[typed.reading]}", *(f"stage {name}" for name in names)]
+    lines += [f"unit {typed.unit}"] if typed.unit else []
     lines += [f"{names[i]} -> {names[j]} {text}" for (i, j), text in typed.rates.items()]
     lines += [f"{names[i]} {DIAGONAL_WORDS[typed.reading]} {text}" for i, text in typed.diagonal.items()]
     return "\n".join(lines) + "\n"
@@ -188,7 +205,8 @@ def as_matrix(typed: Typed, separator: str) -> str:
     """A typed sheet as a matrix."""
     n = len(typed.names)
     names = [f'"{name}"' if separator in name else name for name in typed.names]
-    rows = [["from / to", *names, DIAGONAL_WORDS[typed.reading]]]
+    rows = [["unit", typed.unit]] if typed.unit else []
+    rows.append(["from / to", *names, DIAGONAL_WORDS[typed.reading]])
     for i, name in enumerate(names):
         rows.append([name, *(typed.rates.get((i, j), "") for j in range(n)), typed.diagonal.get(i, "")])
     return "".join(separator.join(row) + "\n" for row in rows)
@@ -208,15 +226,21 @@ def random_rate(rng: random.Random) -> str:
     return f"{rng.randint(1, 999)}e{rng.randint(-9, 3)}"
 
 
+def random_unit(rng: random.Random) -> str:
+    """The words for a unit, or none."""
+    return rng.choice(["", "seconds", "ticks", "2^512 seconds", "2^-512 seconds", "2^+7 seconds", "2^-10 seconds",
+                       f"2^{rng.randint(-512, 512)} seconds"])
+
+
 def random_typed(rng: random.Random, reading: int, n: int,
                  text: Callable[[random.Random], str] = random_text) -> Typed:
-    """A sheet with some rates of each stage; a leaving rate may be missing."""
+    """A sheet with some rates of each stage; a leaving rate may be missing, and so may the unit."""
     names = rng.sample(["intake", "key ceremony", "Sign", "x-1", "größe", "leaves", "stage", "a, b", "c;d", "#7",
-                        "p->q", "reading", "margin", "100", "-", *(f"stage {k}" for k in range(40))], n)
+                        "p->q", "reading", "margin", "unit", "100", "-", *(f"stage {k}" for k in range(40))], n)
     share = rng.choice([0.1, 0.5, 1.0])
     rates = {(i, j): text(rng) for i in range(n) for j in range(n) if i != j and rng.random() < share}
     diagonal = {i: text(rng) for i in range(n) if reading == 2 or rng.random() < 0.6}
-    return Typed(reading, names, rates, diagonal)
+    return Typed(reading, names, rates, diagonal, random_unit(rng))
 
 
 def exact_matrix(typed: Typed, exact_of: Callable[[str], Fraction] = value) -> Exact:
@@ -295,6 +319,11 @@ def split_table(out: bytes, names: Sequence[str]) -> tuple[str, list[list[str]],
     return lines[0], cells, rows
 
 
+def counted(e: int) -> str:
+    """What a table in units of 2^e seconds says that it counts."""
+    return "Seconds" if e == 0 else "Ticks of 1/1,024 second" if e == -10 else f"Units of 2^{e} seconds"
+
+
 def idle_line(out: bytes) -> str:
     """What a table says of idle stages below its numbers, nothing without such a line."""
     last_lines = out.decode().split("\n\n")[-1].split("\n")
@@ -307,11 +336,11 @@ class Make(ToolTest):
     """Files made from texts."""
 
     def test_document_sheet_p(self) -> None:
-        """Sheet P of document 01, byte by byte, and what dwell prints for it."""
+        """Sheet P of document 01 in seconds, byte by byte, and what dwell prints for it."""
         data = self.make("reading leaving-rates\nstages a b\na -> b 1\nb -> a 1\na leaves 1\n")
-        self.assertEqual(data.hex(), "0400000001000100020012000000020001" "00" "000000000000f03f" "000000000000f0bf"
-                                     "120000000200" "0200" "000000000000f0bf" "0000000000000000")
-        self.assertEqual(dwell(data), b"seconds 2 32\n1 1 3ff0000000000000\n1 2 3ff0000000000000\n"
+        self.assertEqual(data.hex(), "060000000100" "010002000000" "120000000200" "0100" "000000000000f03f"
+                                     "000000000000f0bf" "120000000200" "0200" "000000000000f0bf" "0000000000000000")
+        self.assertEqual(dwell(data), b"seconds 2 32 0\n1 1 3ff0000000000000\n1 2 3ff0000000000000\n"
                                       b"2 1 3ff0000000000000\n2 2 4000000000000000\n")
 
     def test_lines(self) -> None:
@@ -452,7 +481,16 @@ ERRORS: list[tuple[str, int, str]] = [
     (START + "a b 1\n", 3, "write 'FROM -> TO RATE'"),
     (START + "a -> b 0,5\n", 3, "numbers have a decimal point"),
     (START + "a leaves 0,5\n", 3, "numbers have a decimal point"),
-    (START + "unit 5\n", 3, "write 'FROM -> TO RATE'"),
+    (START + "speed 5\n", 3, "write 'FROM -> TO RATE'"),
+    *((START + f"unit{words}\n", 3, "the unit is 'seconds', 'ticks' or '2^E seconds' with E from -512 to 512 "
+       "(a stage of this name stands in quotes)")
+      for words in ("", " 5", " second", " minutes", " Ticks", ' "ticks"', " seconds seconds", " 2^3", " 2^513 seconds",
+                    " 2^-513 seconds", " 2^ seconds", " 2^1.5 seconds", " 2^x seconds", " 2^-10 ticks", " -10",
+                    " 2 ^ 3 seconds", " 2^\u0661 seconds", " 4^3 seconds", " 2^99999999999 seconds", " leaves 1",
+                    " 2^--1 seconds", " 2^3, seconds")),
+    (START + "unit ticks\n\nunit seconds\n", 5, "the unit is given twice (first on line 3) (a stage of this name"),
+    (START + "unit -> a 5\n", 3, "unknown stage 'unit'"),
+    ("unit ticks\nreading margins\n", 1, "a text begins with 'reading"),
     (START + "key ceremony leaves 5\n", 3, "quote a name with spaces"),
     (START + "stage\n", 3, "write 'stage NAME'"),
     (START + "stages ,\n", 3, "write 'stage NAME'"),
@@ -487,6 +525,14 @@ ERRORS: list[tuple[str, int, str]] = [
     (MATRIX + "a,,1,,9\nb,,,1\n", 2, "the row has 5 cells, the header has 4"),
     (MATRIX + 'a,,"1,\nb,,,1\n', 2, "a double quote is not closed"),
     (MATRIX + 'a,,"1"2,\nb,,,1\n', 2, "a double quote is not closed or stands inside a cell"),
+    *((f"unit{cells}\n" + MATRIX + "a,,1,1\nb,,,\n", 1, "the unit is 'seconds', 'ticks' or '2^E seconds' with E from "
+       "-512 to 512") for cells in (",", ",5", ",second", ",2^513 seconds", ",ticks,x", ",,", ',"2^-10"')),
+    ("# x\nunit,ticks\nUnit,ticks\n" + MATRIX + "a,,1,1\nb,,,\n", 3, "the unit is given twice (first on line 2)"),
+    ("unit,ticks\n\n", 3, "no header row of stage names follows the unit"),
+    ("unit,ticks\na,,1,1\n", 2, "'leaves' or 'margin' as its last cell"),
+    ("unit,leaves\n", 1, "'leaves' or 'margin' as its last cell"),
+    (MATRIX + "unit,ticks\na,,1,1\nb,,,\n", 2, "the row with the unit stands before the header row"),
+    (MATRIX + "unit ticks\n", 2, "a line of the other form stands in a matrix"),
     ("from,a,b,margin\na,,1,1\nb,,,\n", 3, "stage 'b' has no margin"),
     ("from,a,b,margin\na,,1,1\nb,,,0\n", 3, "the margin of 'b' is zero"),
 ]
@@ -577,7 +623,7 @@ class Show(ToolTest):
         for i in range(7):
             words[i * 8] = nearest(value(random_text(rng)))
         text = self.good("show", "-", stdin=packed(1, 7, words)).decode()
-        self.assertTrue(text.startswith("reading leaving-rates\nstages s1 s2 s3 s4 s5 s6 s7\n\n"))
+        self.assertTrue(text.startswith("reading leaving-rates\nunit seconds\nstages s1 s2 s3 s4 s5 s6 s7\n\n"))
         found = [0] * 49
         for i, shape, j, typed in re.findall(r"^s(\d) (->|leaves)(?: s(\d))? (\S+)$", text, re.MULTILINE):
             place = (int(i) - 1) * 7 + int(j or i) - 1
@@ -585,7 +631,7 @@ class Show(ToolTest):
             found[place] = nearest(value(typed) if shape == "leaves" else -value(typed))
             self.assert_shortest(typed, abs(number(words[place])))
         self.assertEqual(found, words)
-        self.assertEqual(len([line for line in text.split("\n") if line]), 2 + sum(word != 0 for word in words))
+        self.assertEqual(len([line for line in text.split("\n") if line]), 3 + sum(word != 0 for word in words))
 
     def test_numbers_that_make_does_not_write(self) -> None:
         """NaN, infinities, wrong signs, minus zeros and numbers below 2^-1022 are shown with their bits."""
@@ -604,16 +650,23 @@ class Show(ToolTest):
                       self.good("show", "-", stdin=packed(2, 1, [0])).decode())
         nan = self.good("show", "-", stdin=packed(1, 2, [0, 0x7ff8dead00000001, 0, 0]))
         self.assertEqual(self.bad("make", "-", stdin=nan),
-                         "<stdin>:4: 'nan' is not a number (write it like 0.25, 1e-6 or 0x1p-20)")
+                         "<stdin>:5: 'nan' is not a number (write it like 0.25, 1e-6 or 0x1p-20)")
 
     def test_damaged_files(self) -> None:
         """A file that dwell does not read is refused in words, by the same number and row."""
-        data = packed(1, 2, [nearest(Fraction(x)) for x in (1, -1, -1, 0)])
         self.write("names.txt", "reading margins\nstages first second\n")
-        damaged = [data[:cut] for cut in (0, 5, 6, 9, 10, 15, 33, 34, 57)] + [data + b"\0", data + bytes(10000)]
-        damaged += [data[:at] + bytes([at + 3]) + data[at + 1:] for at in (0, 4, 6, 10, 14, 16, 34, 38, 40)]
-        damaged += [data[:8] + bytes([count]) + data[9:] for count in (0, 1, 3, 33)]
-        damaged += [struct.pack("<IH", length, 2) + bytes(10000) for length in (8453, 8454)]
+        words = [nearest(Fraction(x)) for x in (1, -1, -1, 0)]
+        damaged = [struct.pack("<IH", length, 2) + bytes(10000) for length in (8455, 8456)]
+        damaged += [packed(1, 2, words, e) for e in (513, -513, -32768)]
+        damaged += [struct.pack("<IH", length, 1) + bytes([1, 0, 2, 0, 0, 0, 0, 0])[:length] + packed_rows(2, words)
+                    for length in (0, 3, 5, 7, 8)]
+        for data in (packed(1, 2, words, -10), packed_short(1, 2, words)):
+            rows = len(data) - 48
+            damaged += [data[:cut] for cut in (0, 5, 6, rows - 1, rows, rows + 5, rows + 23, rows + 24, rows + 47)]
+            damaged += [data + b"\0", data + bytes(10000)]
+            damaged += [data[:at] + bytes([at + 3]) + data[at + 1:]
+                        for at in (0, 4, 6, rows, rows + 4, rows + 6, rows + 24, rows + 28, rows + 30)]
+            damaged += [data[:8] + bytes([count]) + data[9:] for count in (0, 1, 3, 33)]
         for content in damaged:
             printed = re.fullmatch(r"refused (\d+) (\d+) 0\n", dwell(content).decode())
             assert printed is not None, content
@@ -631,8 +684,8 @@ class Show(ToolTest):
         self.write("line.csv", "x,key check,b,margin\nkey check,,1,1\nb,,,1\n")
         data = packed(1, 2, [nearest(Fraction(x)) for x in (1, -1, -1, 0)])
         self.assertEqual(self.good("show", "-", "--names", "line.csv", stdin=data).decode(),
-                         'reading leaving-rates\nstages "key check" b\n\n"key check" -> b 1\n"key check" leaves 1\n\n'
-                         'b -> "key check" 1\n')
+                         'reading leaving-rates\nunit seconds\nstages "key check" b\n\n"key check" -> b 1\n'
+                         '"key check" leaves 1\n\nb -> "key check" 1\n')
         self.assertEqual(self.bad("show", "-", "--names", "line.csv", stdin=packed(1, 1, [0])),
                          "line.csv: the text names 2 stages, <stdin> has 1")
 
@@ -650,7 +703,8 @@ class Tables(ToolTest):
         words = [int(line.split()[2], 16) for line in printed.decode().split("\n")[1:-1]]
         out = self.good("table", "--names", "line.txt", stdin=printed)
         first, cells, rows = split_table(out, typed.names)
-        self.assertEqual(first, "Seconds at each stage (columns) for a request that enters at the stage on the left:")
+        self.assertEqual(first, f"{counted(power_of(typed.unit))} at each stage (columns) for a request that enters "
+                                "at the stage on the left:")
         texts = [text for row in cells for text in row]
         self.assertEqual([nearest(value(text)) for text in texts], words)
         for text, word in zip(texts, words):
@@ -730,7 +784,7 @@ class Tables(ToolTest):
 
     def test_names_from_standard_input(self) -> None:
         """--names - beside a file; a text needs no more than its reading and its stages."""
-        self.write("out.txt", "seconds 1 12\n1 1 3fd5555555555555\n")
+        self.write("out.txt", "seconds 1 12 0\n1 1 3fd5555555555555\n")
         out = self.good("table", "out.txt", "--names", "-", stdin=b"reading margins\nstage only\n")
         self.assertEqual(split_table(out, ["only"])[1], [["0.3333333333333333"]])
         self.assertEqual(self.bad("table", "out.txt", "--names", "-", stdin=b"reading margins\nstages a b\n"),
@@ -742,18 +796,20 @@ class Tables(ToolTest):
                            (0, "0x0p+0"), (0x0010000000000001, "0x1.0000000000001p-1022"),
                            (0x4028000000000000, "0x1.8p+3"),
                            (0x7fefffffffffffff, "0x1.fffffffffffffp+1023"), (0x4030100000000000, "0x1.01p+4")]:
-            out = self.good("table", "--hex", stdin=f"seconds 1 4\n1 1 {word:016x}\n".encode())
+            out = self.good("table", "--hex", stdin=f"seconds 1 4 0\n1 1 {word:016x}\n".encode())
             self.assertEqual(split_table(out, ["s1"])[1], [[text]])
 
     def test_not_dwells_output(self) -> None:
         """Input that dwell did not print is told by its line."""
-        good = "seconds 2 32\n" + "".join(f"{place} 4000000000000000\n" for place in ("1 1", "1 2", "2 1", "2 2"))
-        for text, line in [("", 1), ("hello\n", 1), ("seconds 0 4\n", 1), ("seconds 33 4\n", 1), ("refused 7\n", 1),
+        good = "seconds 2 32 0\n" + "".join(f"{place} 4000000000000000\n" for place in ("1 1", "1 2", "2 1", "2 2"))
+        for text, line in [("", 1), ("hello\n", 1), ("seconds 0 4 0\n", 1), ("seconds 33 4 0\n", 1), ("refused 7\n", 1),
+                           *((good.replace("32 0", f"32{last}"), 1)
+                             for last in ("", " ", " 513", " -513", " -0", " 00", " +1", " 1.5", " x", " 0 0", " 0 ")),
                            ("refused 7 1 1\nmore\n", 1), (good[:40], 3), (good.replace("1 2 4", "1 3 4"), 3),
                            (good.replace("2 2 4", "2 2 g"), 5), (good + "2 3 4000000000000000\n", 6),
                            (good.replace("seconds", "Seconds"), 1), (good.replace("2 1 4", "2 1  4"), 4)]:
             self.assertTrue(self.bad("table", stdin=text.encode()).startswith(f"<stdin>:{line}: "), text)
-        self.assertEqual(self.bad("table", stdin=b"seconds 1 4\n\xff"), "<stdin>:2: this is not UTF-8 text")
+        self.assertEqual(self.bad("table", stdin=b"seconds 1 4 0\n\xff"), "<stdin>:2: this is not UTF-8 text")
 
 
 class Idle(ToolTest):
@@ -809,7 +865,7 @@ class Idle(ToolTest):
         """A sheet file keeps its idle stages, which have no line of their own in the text."""
         data = self.make(self.LINES)
         shown = self.good("show", "-", "--names", "line.txt", stdin=data).decode()
-        self.assertEqual(shown, "reading leaving-rates\nstages a gluing b packing\n\n"
+        self.assertEqual(shown, "reading leaving-rates\nunit seconds\nstages a gluing b packing\n\n"
                                 "a -> b 1\na leaves 1\n\nb -> a 1\n")
         self.assertEqual(self.make(shown), data)
         only = packed(1, 32, [0] * 1024)
@@ -824,13 +880,82 @@ class Idle(ToolTest):
         self.assertEqual((split_table(out, ["a", "b"])[1], idle_line(out)), ([["1", "0"], ["0", "0.5"]], ""))
 
 
+class Units(ToolTest):
+    """The time unit, from a text to the file, back to a text, and to the table."""
+
+    RATES = "stages a b\na -> b 1\nb -> a 1\na leaves 1\n"
+    ROWS = "from,a,b,leaves\na,,1,1\nb,1,,\n"
+    WORDS = [nearest(Fraction(x)) for x in (1, -1, -1, 0)]
+
+    def test_words(self) -> None:
+        """Each way to say a unit, in lines and in a matrix; the numbers are those that are typed."""
+        for unit, e in [("seconds", 0), ("ticks", -10), ("2^0 seconds", 0), ("2^-10 seconds", -10), ("2^6 seconds", 6),
+                        ("2^+6 seconds", 6), ("2^512 seconds", 512), ("2^-512 seconds", -512), ("2^007 seconds", 7)]:
+            data = packed(1, 2, self.WORDS, e)
+            for text in (f"reading leaving-rates\nunit {unit}\n{self.RATES}",
+                         f"reading leaving-rates\n{self.RATES}\n  unit\t {unit}   # at the end\n",
+                         f"unit,{unit}\n{self.ROWS}", f"# a comment\n\n Unit , {unit.upper()} ,,,\n{self.ROWS}",
+                         f'"unit","{unit}"\n{self.ROWS}', f"unit;{unit};;\n{self.ROWS}".replace(",", ";"),
+                         f"unit\t{unit}\n{self.ROWS}".replace(",", "\t")):
+                self.assertEqual(self.make(text), data, text)
+
+    def test_none(self) -> None:
+        """Without a unit a text is in seconds; a file always says its unit."""
+        for text in (f"reading leaving-rates\n{self.RATES}", self.ROWS):
+            self.assertEqual(self.make(text), packed(1, 2, self.WORDS, 0))
+
+    def test_a_stage_of_this_name(self) -> None:
+        """A stage may be named unit: in quotes where its line would begin with it, and in a matrix as it is."""
+        words = [nearest(Fraction(x)) for x in (3, -1, 0, 2)]
+        for text in ('reading leaving-rates\nunit ticks\nstages unit b\nunit -> b 1\n"unit" leaves 3\nb leaves 2\n',
+                     "unit,ticks\nunit,unit,b,leaves\nunit,,1,3\nb,,,2\n"):
+            self.assertEqual(self.make(text), packed(1, 2, words, -10), text)
+        self.assertEqual(self.make("unit,unit,b,leaves\nunit,,1,3\nb,,,2\n"), packed(1, 2, words, 0))
+        shown = self.good("show", "-", "--names", "line.txt", stdin=packed(1, 2, words, 3)).decode()
+        self.assertEqual(shown, 'reading leaving-rates\nunit 2^3 seconds\nstages "unit" b\n\n"unit" -> b 1\n'
+                                '"unit" leaves 3\n\nb leaves 2\n')
+        self.assertEqual(self.make(shown), packed(1, 2, words, 3))
+
+    def test_show(self) -> None:
+        """The unit of every file is shown, also of one that says none, and read back."""
+        for e in range(-512, 513):
+            data = packed(2, 1, [nearest(Fraction(3))], e)
+            shown = self.good("show", "-", stdin=data).decode()
+            unit = {0: "seconds", -10: "ticks"}.get(e, f"2^{e} seconds")
+            self.assertEqual(shown, f"reading margins\nunit {unit}\nstages s1\n\ns1 margin 3\n")
+            self.assertEqual(self.good("make", "-", stdin=shown.encode()), data)
+        short = packed_short(2, 1, [nearest(Fraction(3))])
+        shown = self.good("show", "-", stdin=short)
+        self.assertEqual(shown, b"reading margins\nunit seconds\nstages s1\n\ns1 margin 3\n")
+        self.assertEqual(self.good("make", "-", stdin=shown), packed(2, 1, [nearest(Fraction(3))], 0))
+
+    def test_table(self) -> None:
+        """The heading says what is counted, and no number depends on the unit."""
+        for e in (0, -10, 10, 512, -512, -1, 100):
+            printed = dwell(packed(1, 2, self.WORDS, e))
+            self.assertEqual(printed.split(b"\n")[0], b"seconds 2 32 %d" % e)
+            first, cells, _ = split_table(self.good("table", stdin=printed), ["s1", "s2"])
+            self.assertEqual(first, f"{counted(e)} at each stage (columns) for a request that enters at the stage on "
+                                    "the left:")
+            self.assertEqual(cells, [["1", "1"], ["1", "2"]])
+        self.assertEqual(dwell(packed_short(1, 2, self.WORDS)), dwell(packed(1, 2, self.WORDS, 0)))
+
+    def test_longest_file(self) -> None:
+        """The tool reads the longest file, and like dwell one byte more."""
+        longest = packed(1, 32, [0] * 1024, 512)
+        self.assertEqual(len(longest), sheet.LONGEST_FILE)
+        self.assertIn(b"\nunit 2^512 seconds\n", self.good("show", "-", stdin=longest))
+        self.assertIn("refused (14)", self.bad("show", "-", stdin=longest + b"\0"))
+
+
 class Refusals(ToolTest):
     """Refusals in words."""
 
     WORDS = {1: "reading is neither 1", 2: "not from 1 to 32", 3: "n × n numbers", 4: "room lent", 5: "asked for",
              6: "not a finite number", 7: "wrong sign", 8: "too small", 9: "never gets out", 10: "range of binary64",
              11: "the file ends before", 12: "does not begin with the head", 13: "something else where",
-             14: "goes on after", 15: "power of two to move by", 16: "a number that is moved"}
+             14: "goes on after", 15: "power of two to move by", 16: "a number that is moved",
+             17: "the unit of the moved sheet"}
 
     def said(self, printed: bytes) -> str:
         """What table says of a refusal, with names."""
@@ -838,7 +963,7 @@ class Refusals(ToolTest):
         return self.bad("table", "--names", "names.txt", stdin=printed)
 
     def test_every_number(self) -> None:
-        """Each number from 1 to 16 in one sentence, with the place and the stages' names where it has them."""
+        """Each number from 1 to 17 in one sentence, with the place and the stages' names where it has them."""
         for refusal, words in self.WORDS.items():
             row = 2 if refusal in (6, 7, 8, 9, 11, 13) else 0
             column = 3 if refusal in (6, 7, 8) else 0
@@ -859,6 +984,7 @@ class Refusals(ToolTest):
         self.assertIn("the row of stage 3 (signer)", self.said(b"refused 11 3 0\n"))
         self.assertIn("the row of stage 9 is", self.said(b"refused 11 9 0\n"))
         self.assertIn("stage 9 never", self.said(b"refused 9 9 0\n"))
+        self.assertIn("a unit of 2^E seconds with E from -512 to 512", self.said(b"refused 12 0 0\n"))
         self.assertTrue(self.said(b"refused 77 0 0\n").startswith("refused (77): "))
         self.assertIn("the rate from stage 1 to stage 2 is not", self.bad("table", stdin=b"refused 6 1 2\n"))
 
@@ -872,7 +998,8 @@ class Refusals(ToolTest):
                 (packed(1, 2, [one, move, 0, 0]), "refused (9 at row 2): a request at stage 2 (key ceremony) never"),
                 (packed(1, 1, [nearest(Fraction(2) ** 1022)]), "refused (10): "), (b"", "refused (11): "),
                 (sheet_a[:-1], "refused (11 at row 1): "), (b"\4\0\0\0\1\0\3\0\1\0", "refused (12): "),
-                (sheet_a[:14] + b"\3" + sheet_a[15:], "refused (13 at row 1): "),
+                (packed(1, 1, [one], 513), "refused (12): "), (packed(1, 1, [one], -513), "refused (12): "),
+                (sheet_a[:16] + b"\3" + sheet_a[17:], "refused (13 at row 1): "),
                 (sheet_a + b"\0", "refused (14): ")]:
             self.assertTrue(self.said(dwell(data)).startswith(start), start)
 
@@ -904,9 +1031,10 @@ class Garbage(ToolTest):
         """Examples with stretches replaced; what make accepts comes back from show."""
         rng = random.Random(6)
         pieces = [b"", b"\n", b'"', b"#", b",", b";", b"\t", b"->", b" ", b"-", b"0", b"1e9", b"\xff", b"\0", b"\r",
-                  b"stages", b"reading", b"leaves", b"\xc2\xa0", b"\xe2\x80\xa8", b"\x0b", b"nan", b"a b"]
+                  b"stages", b"reading", b"leaves", b"\xc2\xa0", b"\xe2\x80\xa8", b"\x0b", b"nan", b"a b", b"unit",
+                  b"ticks", b"2^3 seconds"]
         texts = [(ROOT / "examples" / name).read_bytes()
-                 for name in ("signing.txt", "panel.txt", "retired.txt", "cards.csv")]
+                 for name in ("signing.txt", "panel.txt", "retired.txt", "terminal.txt", "cards.csv")]
         short = [re.sub(rb"(?m)^.?#.*\n", b"", text) for text in texts]
         for _ in range(800):
             text = self.changed(rng, rng.choice(short), pieces)
@@ -920,8 +1048,8 @@ class Garbage(ToolTest):
         """Sheet files and dwell's output with bytes replaced."""
         rng = random.Random(7)
         pieces = [b"", b"\0", b"\1", b"\2", b"\x7f\xff", b"\n", b" ", b"3", b"ff", b"refused 1 2 3", b"\xc3"]
-        file = packed(2, 3, [nearest(Fraction(k % 4 == 0) - Fraction(1, 3)) for k in range(9)])
-        output = (b"seconds 2 32\n1 1 3ff0000000000000\n1 2 3ff0000000000000\n"
+        file = packed(2, 3, [nearest(Fraction(k % 4 == 0) - Fraction(1, 3)) for k in range(9)], -10)
+        output = (b"seconds 2 32 -10\n1 1 3ff0000000000000\n1 2 3ff0000000000000\n"
                   b"2 1 3ff0000000000000\n2 2 7ff0000000000000\n")
         for _ in range(300):
             self.check("show", "-", stdin=self.changed(rng, file, pieces))
@@ -938,7 +1066,8 @@ def read_lines(path: Path) -> Typed:
     moves = re.findall(r"^(\w+) *-> *(\w+) +(\S+)", text, re.MULTILINE)
     last = re.findall(r"^(\w+) +(?:leaves|margin) +(\S+)", text, re.MULTILINE)
     return Typed(2 if "reading margins" in text else 1, names,
-                 {(names.index(a), names.index(b)): x for a, b, x in moves}, {names.index(a): x for a, x in last})
+                 {(names.index(a), names.index(b)): x for a, b, x in moves}, {names.index(a): x for a, x in last},
+                 "".join(re.findall(r"^unit (.*)$", text, re.MULTILINE)))
 
 
 def norm(matrix: Exact) -> Fraction:
@@ -1022,6 +1151,32 @@ class Examples(ToolTest):
         cells = split_table(alone, ["cutting", "signing", "shipping"])[1]
         self.assertEqual([[value(text) for text in row] for row in cells],
                          [[rows[i][j] for j in (0, 2, 3)] for i in (0, 2, 3)])
+
+    def test_terminal(self) -> None:
+        """The file says ticks, the comments' ticks are those of the rates, and 1,024 ticks of the table are a second of
+        the table whose rates are per second, bit for bit."""
+        path = ROOT / "examples" / "terminal.txt"
+        typed = read_lines(path)
+        self.assertEqual((typed.unit, typed.names), ("ticks", ["slot", "reader", "check", "tray"]))
+        self.assertEqual(self.good("make", str(path)), expected_file(typed))
+        spent = [1 / (sum((value(text) for (i, _), text in typed.rates.items() if i == k), Fraction(0))
+                      + value(typed.diagonal.get(k, "0"))) for k in range(4)]
+        self.assertEqual(spent, [128, 512, 1000, 2000])
+        self.assertEqual(value(typed.rates[2, 1]) * 10, 1 / spent[2])
+        ticks, exact = self.seconds("terminal.txt", typed.names), exact_seconds(typed)
+        for row, exact_row in zip(ticks, exact, strict=True):
+            for x, y in zip(row, exact_row, strict=True):
+                self.assertLessEqual(abs(x - y), y / 10 ** 15)
+
+        def per_second(text: str) -> str:
+            return (number(nearest(value(text))) * 1024).hex()
+
+        moved = Typed(1, typed.names, {pair: per_second(text) for pair, text in typed.rates.items()},
+                      {i: per_second(text) for i, text in typed.diagonal.items()}, "seconds")
+        out = self.good("table", "--names", "line.txt", "--hex", stdin=dwell(self.make(as_lines(moved))))
+        in_ticks = self.good("table", "--names", str(path), "--hex", stdin=dwell(self.good("make", str(path))))
+        self.assertEqual([[value(text) for text in row] for row in split_table(in_ticks, typed.names)[1]],
+                         [[value(text) * 1024 for text in row] for row in split_table(out, typed.names)[1]])
 
     def test_walk_through(self) -> None:
         """Each command of the walk-through prints what stands below it."""

@@ -5,39 +5,47 @@
     python3 crates/cases/expected.py stdout > crates/cases/stdout
 
 dwell's input: all sheets of document 01, the cases of its reading that a file can carry, damaged files, sheets
-at the edge of the range, and random sheets of both readings with every n from 1 to 32. Calls of the whole table
-and of one entry where a file cannot: sizes out of range, sheets and areas of a wrong length, stages out of range.
-Files for both readers: cut at every byte, a byte of a record's head changed, lengths, one byte more, a small area.
-Sheets of every n for both writers, NaN patterns among them, each loaded again; calls that saving refuses.
+at the edge of the range, and random sheets of both readings with every n from 1 to 32; in files with document 01's
+head and in files that say their unit. Calls of the whole table and of one entry where a file cannot: sizes and units
+out of range, sheets and areas of a wrong length, stages out of range.
+Files for both readers: cut at every byte, a byte of a record's head changed, lengths, one byte more, a small area;
+heads of every length, and units at both ends of their range and past them.
+Sheets of every n for both writers, in several units, NaN patterns among them, each loaded again; calls that saving
+refuses.
 One column: its questions in order, every column of document 01's sheets of reading 1, and random sheets with every
 n from 1 to 32, among them many whose table is out of range while the column is not.
 Idle stages: first, between others, last, many and alone, with zeros of either sign; stages that are nearly idle; the
 entries and columns of an idle stage, and those beside it.
-Moving to another time unit: the questions in order, both ends of the range of k and of the results, zeros of either
-sign, sheets that no table takes, 32 stages, random sheets by the last k that moves them and the first that does not.
+Moving to another time unit: the questions in order, both ends of the range of k, of the new unit and of the results,
+zeros of either sign, sheets that no table takes, 32 stages, random sheets by the last k that moves them and the first
+that does not.
 Before an accepted table or column is written it is compared with the exact inverse by the accuracy rule.
 """
 from __future__ import annotations
 
+import itertools
 import random
 import struct
 import sys
 from collections import Counter
 from pathlib import Path
-from typing import Iterator, NamedTuple, Union
+from typing import Iterable, Iterator, NamedTuple, Union
 
 sys.path.insert(0, str(Path(__file__).resolve().parents[2] / "tools"))
 sys.dont_write_bytecode = True
 
-from reference import (GREATEST_INT64, INF, LARGEST, LEAST_INT64, LIMIT, NAN, P_SHEET, SHEET_ROW, Column,  # noqa: E402
-                       Loaded, Moved, Refused, Saved, Style, Table, accuracy, among_idle, bits_of, column,
-                       column_accuracy, dwell, edge_pair, entry, load, make_file, make_file_words, move, number_of,
-                       random_sheet, random_style, range_facts, record, save, sheet_parts, sheet_to_move, table,
-                       table_of_stream, uneven_sheet, word_of)
+from reference import (GREATEST_INT64, HEAD, IN_SECONDS, INF, LARGEST, LEAST_INT64, LIMIT, NAN, P_SHEET,  # noqa: E402
+                       POWERS_OUT_OF_RANGE, SHEET_ROW, Column, Loaded, Moved, Refused, Saved, Style, Table, accuracy,
+                       among_idle, bits_of, column, column_accuracy, dwell, edge_pair, entry, file_length, load,
+                       make_file, make_head, make_rows, make_short_file, make_short_file_words, make_short_head, move,
+                       number_of, random_sheet, random_style, range_facts, record, save, sheet_parts, sheet_to_move,
+                       table, table_of_stream, uneven_sheet, word_of)
 
 Sheet = tuple[int, int, list[float]]  # reading, n, numbers
 
 SMALLEST = 2.0 ** -1022
+
+UNITS = [0, -10, 512, -512, 10, -1, 256, -257]      # e of sheets whose answers do not depend on it
 
 # Document 01, "Sheets to try", with the off-diagonals -2^-1074 and -2^-1022.
 DOCUMENT: list[Sheet] = [
@@ -100,24 +108,30 @@ def steps_out_of_range() -> list[Sheet]:
         (2, 2, [1.0, 0.0, -tiny, huge])]                                # x_ij·(t_jk / a_k)
 
 
+def damaged_rows(p: bytes) -> list[bytes]:
+    """P's file with either head, cut, with a row that is not the one due, and with a byte more."""
+    head, first, second = p[:-48], p[-48:-24], p[-24:]
+    bad_row = first[:6] + struct.pack("<H", 9) + first[8:]
+    return [p[:1], head[:-1], head, p[:-25], p[:-24], p[:-1], p + b"\0", head + bad_row + second,
+            head + bad_row + second[:16], head + record(SHEET_ROW, b"") + second, head + first + record(SHEET_ROW, b"")]
+
+
 def damaged_files() -> list[bytes]:
     """Files that are refused before a sheet is known, and the bytes that dwell judges."""
-    p = make_file(1, 2, P_SHEET)
-    longest = make_file(1, LIMIT, [2.0 if i % (LIMIT + 1) == 0 else 0.0 for i in range(LIMIT * LIMIT)])
-    bad_row = p[:16] + struct.pack("<H", 9) + p[18:]
+    p = make_file(1, 2, -10, P_SHEET)
+    longest = make_file(1, LIMIT, 512, [2.0 if i % (LIMIT + 1) == 0 else 0.0 for i in range(LIMIT * LIMIT)])
     return [
-        b"", p[:1], p[:9], p[:10], p[:33], p[:34], p[:-1], p + b"\0", bad_row, bad_row[:50],
-        p[:10] + record(SHEET_ROW, b"") + p[34:], p[:34] + record(SHEET_ROW, b""),
-        record(1, struct.pack("<HH", 1, 33)), record(1, struct.pack("<HH", 1, 0)), record(1, struct.pack("<HH", 3, 1)),
-        record(1, struct.pack("<HH", 0, 1)), record(2, struct.pack("<HH", 1, 1)), record(1, b"\1\0"),
-        struct.pack("<IH", 2 ** 32 - 1, 1) + p[6:], longest + b"\0", longest + bytes(4000), longest[:-1],
-        struct.pack("<IH", 8454, 2) + bytes(10000), struct.pack("<IH", 8453, 2) + bytes(10000),
-        struct.pack("<IH", 9000, 2) + bytes(10000)]
+        b"", *damaged_rows(p), *damaged_rows(make_short_file(1, 2, P_SHEET)), make_head(1, 33, 0),
+        make_short_head(1, 33), make_short_head(1, 0), make_short_head(3, 1), make_head(0, 1, 0),
+        record(SHEET_ROW, struct.pack("<HH", 1, 1)), record(HEAD, b"\1\0"), record(HEAD, b"\1\0\1\0\0"),
+        make_file(1, 2, 513, P_SHEET), make_file(1, 2, -513, P_SHEET),
+        struct.pack("<IH", 2 ** 32 - 1, HEAD) + p[6:], longest + b"\0", longest + bytes(4000), longest[:-1],
+        *(struct.pack("<IH", length, SHEET_ROW) + bytes(10000) for length in (8456, 8455, 8454, 9000))]
 
 
 def accepted(sheet: Sheet) -> bool:
     reading, n, numbers = sheet
-    return isinstance(table(reading, n, numbers, n * n), Table)
+    return isinstance(table(reading, n, IN_SECONDS, numbers, n * n), Table)
 
 
 def edge_of(sheet: Sheet) -> list[Sheet]:
@@ -195,6 +209,12 @@ def large_refused(rng: random.Random) -> Iterator[Sheet]:
     yield 1, n, [leaving.get(i, 0.0) if i == j else -float((i, j) in moves) for i in range(n) for j in range(n)]
 
 
+def files(sheets: Iterable[Sheet]) -> Iterator[bytes]:
+    """A file of each sheet: one after the other in the units above, and then one by document 01."""
+    for (reading, n, numbers), e in zip(sheets, itertools.cycle([*UNITS, None])):
+        yield make_short_file(reading, n, numbers) if e is None else make_file(reading, n, e, numbers)
+
+
 def inputs() -> list[bytes]:
     """What dwell is given."""
     rng = random.Random(20260101)
@@ -206,7 +226,7 @@ def inputs() -> list[bytes]:
     sheets += small_sheets(rng, 100)
     sheets += every_size(rng)
     sheets += large_refused(rng)
-    return damaged_files() + [make_file(*sheet) for sheet in sheets]
+    return [*damaged_files(), *files(sheets)]
 
 
 # ==== The cases and what each writes ====
@@ -221,8 +241,8 @@ class Case(NamedTuple):
 
 
 def packed(letter: str, words: list[int], rest: bytes = b"") -> bytes:
-    """The letter of a call, 64-bit words, and further bytes."""
-    return letter.encode() + struct.pack(f"<{len(words)}Q", *words) + rest
+    """The letter of a call, 64-bit words, a negative one in two's complement, and further bytes."""
+    return letter.encode() + struct.pack(f"<{len(words)}Q", *(word % 2 ** 64 for word in words)) + rest
 
 
 def number_bits(word: int) -> int:
@@ -249,94 +269,123 @@ def dwell_case(data: bytes) -> Case:
     return Case(packed("d", [], data), dwell(data))
 
 
-def table_case(reading: int, n: int, sheet: list[float], room: int) -> Case:
-    answer = table(reading, n, sheet, room)
+def table_case(reading: int, n: int, e: int, sheet: list[float], room: int) -> Case:
+    answer = table(reading, n, e, sheet, room)
     check_accuracy(reading, n, sheet, answer)
     area = [AREA_NUMBER] * room
     if isinstance(answer, Table):
         area[:n * n] = answer.entries
-    return Case(packed("t", [reading, n, room, *(bits_of(x) for x in sheet)]),
+    return Case(packed("t", [reading, n, e, room, *(bits_of(x) for x in sheet)]),
                 line(answer, [answer.allowance] if isinstance(answer, Table) else [], [bits_of(x) for x in area]))
 
 
-def entry_case(reading: int, n: int, sheet: list[float], i: int, j: int) -> Case:
-    answer = entry(reading, n, sheet, i, j)
-    return Case(packed("e", [reading, n, i, j, *(bits_of(x) for x in sheet)]),
+def entry_case(reading: int, n: int, e: int, sheet: list[float], i: int, j: int) -> Case:
+    answer = entry(reading, n, e, sheet, i, j)
+    return Case(packed("e", [reading, n, e, i, j, *(bits_of(x) for x in sheet)]),
                 line(answer, [], [] if isinstance(answer, Refused) else [bits_of(answer.value)]))
 
 
-def entries_case(reading: int, sheet: list[float]) -> Case:
+def entries_case(reading: int, e: int, sheet: list[float]) -> Case:
     """Every entry of a sheet of 32 stages, each by itself: those of its table."""
-    answer = table(reading, LIMIT, sheet, LIMIT * LIMIT)
+    answer = table(reading, LIMIT, e, sheet, LIMIT * LIMIT)
     assert isinstance(answer, Table)
-    return Case(packed("a", [reading, LIMIT, *(bits_of(x) for x in sheet)]),
+    return Case(packed("a", [reading, LIMIT, e, *(bits_of(x) for x in sheet)]),
                 "".join(line(answer, [], [bits_of(x)]) for x in answer.entries))
+
+
+def handed_head(answer: Union[Loaded, Refused]) -> list[int]:
+    """What a reader hands over beside the numbers."""
+    return [answer.reading, answer.n, answer.e] if isinstance(answer, Loaded) else []
 
 
 def file_case(data: bytes, room: int) -> Case:
     """Both readers have the same answer, and areas of their own."""
     answer = load(data, room)
     words = answer.words if isinstance(answer, Loaded) else []
-    head = [answer.reading, answer.n] if isinstance(answer, Loaded) else []
     areas = [words + [AREA_WORD] * (room - len(words)),
              [number_bits(word) for word in words] + [bits_of(AREA_NUMBER)] * (room - len(words))]
-    return Case(packed("f", [room], data), "".join(line(answer, head, area) for area in areas))
+    return Case(packed("f", [room], data), "".join(line(answer, handed_head(answer), area) for area in areas))
 
 
-def save_cases(reading: int, n: int, words: list[int], room: int) -> Iterator[Case]:
+def save_cases(reading: int, n: int, e: int, words: list[int], room: int) -> Iterator[Case]:
     """A sheet saved as words and as numbers: the answer and every byte; then what loading that file gives."""
     for letter, sheet, unset in (("s", words, AREA_WORD), ("n", [number_bits(word) for word in words], bits_of(AREA_NUMBER))):
-        answer = save(reading, n, sheet, room)
+        answer = save(reading, n, e, sheet, room)
         data = answer.data if isinstance(answer, Saved) else b""
         area = data + bytes([AREA_BYTE]) * (room - len(data))
         again = load(data, len(sheet))
         loaded = again.words if isinstance(again, Loaded) else [unset] * len(sheet)
-        head = [again.reading, again.n] if isinstance(again, Loaded) else []
         text = line(answer, [len(data)] if isinstance(answer, Saved) else [], [])[:-1] + f" {area.hex()}\n"
-        yield Case(packed(letter, [reading, n, room, *words]), text + line(again, head, loaded))
+        yield Case(packed(letter, [reading, n, e, room, *words]), text + line(again, handed_head(again), loaded))
 
 
 def saves(rng: random.Random) -> Iterator[Case]:
-    """Sheets of every n, with room to spare or just enough; sheets that saving refuses, in the questions' order."""
+    """Sheets of every n, with room to spare or just enough; sheets that saving refuses, in the questions' order; each
+    unit, and a sheet that was loaded from a file by document 01."""
     for n in range(1, LIMIT + 1):
         words = [rng.choice([rng.getrandbits(64), 0x7ff0000000000001 + rng.getrandbits(40), 0xfff8000000000000, 1 << 63, 0])
                  for _ in range(n * n)]
-        as_words, as_numbers = save_cases(1 + n % 2, n, words, 10 + n * (8 * n + 8) + n % 3)
+        as_words, as_numbers = save_cases(1 + n % 2, n, UNITS[n % len(UNITS)], words, file_length(n) + n % 3)
         yield as_words
         if n <= 12 or n == LIMIT:
             yield as_numbers
     p = [bits_of(x) for x in P_SHEET]
-    for reading, n, words, room in [(0, 0, [], 0), (3, 33, p, 57), (1, 0, [], 0), (2, 33, [0] * 1089, 8500), (1, 2 ** 63, p, 0),
-                                    (2, 2, p[:3], 0), (1, 2, p + [0], 58), (1, 2, p, 57), (2, 2, p, 0), (1, 2, p, 58)]:
-        yield from save_cases(reading, n, words, room)
+    for reading, n, e, words, room in [
+            (0, 0, 513, [], 0), (3, 33, 0, p, 59), (1, 0, -513, [], 0), (2, 33, 0, [0] * 1089, 8500),
+            (1, 2 ** 63, 513, p, 0), (2, 2, 513, p[:3], 0), (1, 2, -513, p, 60), (2, 2, GREATEST_INT64, p, 0),
+            (1, 2, LEAST_INT64, p, 60), (2, 2, 512, p[:3], 0), (1, 2, -512, p + [0], 60), (1, 2, 0, p, 59),
+            (2, 2, -10, p, 0), (1, 2, 10, p, 60)]:
+        yield from save_cases(reading, n, e, words, room)
+    for e in [*UNITS, 511, -511, 255, -256]:
+        yield next(save_cases(1, 1, e, p[:1], 28))
+    loaded = load(make_short_file_words(2, 2, p), 4)
+    assert isinstance(loaded, Loaded) and loaded.e == 0
+    yield from save_cases(loaded.reading, loaded.n, loaded.e, loaded.words, 61)
 
 
-def both(reading: int, n: int, sheet: list[float]) -> list[Case]:
+def both(reading: int, n: int, e: int, sheet: list[float]) -> list[Case]:
     """The whole table with room to spare, and the first entry."""
-    return [table_case(reading, n, sheet, 6), entry_case(reading, n, sheet, 1, 1)]
+    return [table_case(reading, n, e, sheet, 6), entry_case(reading, n, e, sheet, 1, 1)]
 
 
-def every_entry(reading: int, sheet: list[float]) -> list[Case]:
+def every_entry(reading: int, e: int, sheet: list[float]) -> list[Case]:
     """A sheet of two stages: its table, and each entry with the stages 0 and 3 next to them."""
-    return [table_case(reading, 2, sheet, 6)] + [entry_case(reading, 2, sheet, i, j) for i in range(4) for j in range(4)]
+    return [table_case(reading, 2, e, sheet, 6),
+            *(entry_case(reading, 2, e, sheet, i, j) for i in range(4) for j in range(4))]
 
 
-def large(reading: int) -> list[Case]:
+def large(reading: int, e: int) -> list[Case]:
     """A sheet of 32 stages, and every one of its entries."""
     rates = [-1.0, 0.0, -0.1, -3.0, -0.0, -1.0e-7, -1.0e-7]
     sheet = [1.0e-6 if i == j else rates[(5 * i + 3 * j) % 7] for i in range(LIMIT) for j in range(LIMIT)]
-    return [table_case(reading, LIMIT, sheet, 1030), entries_case(reading, sheet)]
+    return [table_case(reading, LIMIT, e, sheet, 1030), entries_case(reading, e, sheet)]
+
+
+def units() -> Iterator[Case]:
+    """The unit of a table and of an entry: out of its range before a sheet of a wrong length, an area that is too
+    short, stages out of range and bad numbers; at both ends of its range."""
+    for e in POWERS_OUT_OF_RANGE:
+        yield table_case(1, 2, e, [NAN] * 3, 0)
+        yield entry_case(2, 2, e, [NAN] * 5, 0, 3)
+    for e in (513, -513):
+        yield table_case(2, 2, e, [NAN] * 4, 3)
+        yield entry_case(1, 2, e, [NAN] * 4, 3, 1)
+        yield from both(1, 2, e, P_SHEET)
+    for e in (-512, 512):
+        yield from both(1, 2, e, P_SHEET)
 
 
 def calls() -> list[Case]:
-    """Questions 1 to 5, each before the numbers are looked at, and accepted and refused sheets."""
+    """Questions 1, 2, 12, 3, 4 and 5, each before the numbers are looked at, and accepted and refused sheets."""
     return [
-        *both(0, 0, [NAN]), *both(3, 1, [NAN]), *both(1, 0, []), *both(2, 33, [1.0] * 1089), *both(1, 2 ** 63, [NAN]),
-        table_case(1, 2, [NAN] * 3, 3), table_case(1, 2, [NAN] * 5, 0), entry_case(2, 2, [NAN] * 3, 0, 0),
-        table_case(1, 2, [NAN] * 4, 3), table_case(1, 1, [NAN], 0), entry_case(1, 1, [NAN], 2, 1), *both(1, 1, [NAN]),
-        *every_entry(1, P_SHEET), *every_entry(2, [4.0, -3.0, -1.0, 1.0]), *every_entry(2, [5.0, 0.0, -3.0, 1.0]),
-        *every_entry(1, [1.0, 1.0, -1.0, 0.0]), *every_entry(1, [0.0, -1.0, -1.0, 0.0]),
-        *every_entry(1, [1.0, 0.0, 0.0, 2.0 ** 1022]), *large(1), *large(2)]
+        *both(0, 0, 513, [NAN]), *both(3, 1, 0, [NAN]), *both(1, 0, -513, []), *both(2, 33, 0, [1.0] * 1089),
+        *both(1, 2 ** 63, GREATEST_INT64, [NAN]), *units(), table_case(1, 2, 512, [NAN] * 3, 3),
+        table_case(1, 2, -512, [NAN] * 5, 0), entry_case(2, 2, 512, [NAN] * 3, 0, 0), table_case(1, 2, 0, [NAN] * 4, 3),
+        table_case(1, 1, -10, [NAN], 0), entry_case(1, 1, 10, [NAN], 2, 1), *both(1, 1, 0, [NAN]),
+        *every_entry(1, 0, P_SHEET), *every_entry(2, -10, [4.0, -3.0, -1.0, 1.0]),
+        *every_entry(2, 512, [5.0, 0.0, -3.0, 1.0]), *every_entry(1, -512, [1.0, 1.0, -1.0, 0.0]),
+        *every_entry(1, 1, [0.0, -1.0, -1.0, 0.0]), *every_entry(1, -1, [1.0, 0.0, 0.0, 2.0 ** 1022]), *large(1, -10),
+        *large(2, 512)]
 
 
 # ==== One column ====
@@ -350,34 +399,37 @@ class Asked(NamedTuple):
     def kind(self) -> tuple[bool, bool]:
         """Whether the whole table is accepted, and whether the column is."""
         return (accepted((1, self.n, self.sheet)),
-                isinstance(column(1, self.n, self.sheet, self.stage, self.n), Column))
+                isinstance(column(1, self.n, IN_SECONDS, self.sheet, self.stage, self.n), Column))
 
 
-def column_case(reading: int, n: int, sheet: list[float], stage: int, room: int) -> Case:
-    answer = column(reading, n, sheet, stage, room)
+def column_case(reading: int, n: int, e: int, sheet: list[float], stage: int, room: int) -> Case:
+    answer = column(reading, n, e, sheet, stage, room)
     area = [AREA_NUMBER] * room
     if isinstance(answer, Column):
         if not all(error.within for error in column_accuracy(n, sheet, {stage: answer.entries})):
             raise ArithmeticError(f"column {stage} of {sheet}: not within the allowance")
         area[:n] = answer.entries
-    return Case(packed("c", [reading, n, room, stage, *(bits_of(x) for x in sheet)]),
+    return Case(packed("c", [reading, n, e, room, stage, *(bits_of(x) for x in sheet)]),
                 line(answer, [answer.allowance] if isinstance(answer, Column) else [], [bits_of(x) for x in area]))
 
 
 def column_questions() -> Iterator[Case]:
-    """Questions 1 to 5, each before the next and before the numbers are looked at; room to spare and none."""
+    """Questions 1, 2, 12, 3, 4 and 5, each before the next and before the numbers are looked at; room to spare and
+    none."""
     nans = [NAN] * 4
-    for reading, n, sheet, stage, room in [
-            (0, 0, [NAN], 0, 0), (2, 0, [NAN], 0, 0), (3, 33, [], 0, 0), (2 ** 63, 2, P_SHEET, 1, 2),
-            (2, 2, P_SHEET, 1, 2), (1, 0, [], 0, 0), (1, 33, [1.0] * 1089, 1, 33), (1, 2 ** 63, [NAN], 0, 0),
-            (1, 2 ** 64 - 1, [1.0], 1, 1), (1, 2, [], 0, 0), (1, 2, nans[:3], 1, 0), (1, 2, [*nans, NAN], 3, 2),
-            (1, 2, nans, 0, 1), (1, 2, nans, 1, 0), (1, 1, [NAN], 2, 0), (1, 2, nans, 0, 2), (1, 2, nans, 3, 2),
-            (1, 2, nans, 2 ** 63, 4), (1, 2, nans, 1, 2), (1, 1, [4.0], 1, 0), (1, 1, [4.0], 1, 1),
-            (1, 1, [4.0], 1, 3)]:
-        yield column_case(reading, n, sheet, stage, room)
-    for room in (1, 2, 4):
+    for reading, n, e, sheet, stage, room in [
+            (0, 0, 513, [NAN], 0, 0), (2, 0, 513, [NAN], 0, 0), (3, 33, 0, [], 0, 0), (2 ** 63, 2, 0, P_SHEET, 1, 2),
+            (2, 2, -513, P_SHEET, 1, 2), (2, 2, 0, P_SHEET, 1, 2), (1, 0, 513, [], 0, 0),
+            (1, 33, 0, [1.0] * 1089, 1, 33), (1, 2 ** 63, -513, [NAN], 0, 0), (1, 2 ** 64 - 1, 0, [1.0], 1, 1),
+            *((1, 2, e, nans[:3], 0, 0) for e in POWERS_OUT_OF_RANGE), (1, 2, 513, P_SHEET, 1, 2),
+            (1, 2, -513, P_SHEET, 2, 2), (1, 2, 513, nans, 3, 1), (1, 2, 0, [], 0, 0), (1, 2, 512, nans[:3], 1, 0),
+            (1, 2, -512, [*nans, NAN], 3, 2), (1, 2, -10, nans, 0, 1), (1, 2, 10, nans, 1, 0), (1, 1, 0, [NAN], 2, 0),
+            (1, 2, 1, nans, 0, 2), (1, 2, -1, nans, 3, 2), (1, 2, 0, nans, 2 ** 63, 4), (1, 2, 0, nans, 1, 2),
+            (1, 1, 0, [4.0], 1, 0), (1, 1, 0, [4.0], 1, 1), (1, 1, -10, [4.0], 1, 3)]:
+        yield column_case(reading, n, e, sheet, stage, room)
+    for e, room in ((512, 1), (-512, 2), (0, 4)):
         for stage in range(4):
-            yield column_case(1, 2, P_SHEET, stage, room)
+            yield column_case(1, 2, e, P_SHEET, stage, room)
 
 
 def every_column() -> Iterator[Asked]:
@@ -430,7 +482,7 @@ def columns(rng: random.Random) -> Iterator[Case]:
     assert min(kinds[True, True], kinds[False, True], kinds[False, False]) >= 20 and not kinds[True, False]
     yield from column_questions()
     for at, one in enumerate(asked):
-        yield column_case(1, one.n, one.sheet, one.stage, one.n + at % 3)
+        yield column_case(1, one.n, UNITS[at % len(UNITS)], one.sheet, one.stage, one.n + at % 3)
 
 
 # ==== Idle stages ====
@@ -453,51 +505,62 @@ IDLE: list[Sheet] = [
 def idle_stages(rng: random.Random) -> Iterator[Case]:
     """Sheets with idle stages by dwell; their tables, entries and columns, each where the answer differs."""
     live, wide = among_idle(rng, 21, accepted_sheet(rng, 1, 21, STYLES[2])[2], LIMIT)
-    for sheet in [*IDLE, (1, LIMIT, wide)]:
-        yield dwell_case(make_file(*sheet))
-    yield table_case(1, 3, AROUND_IDLE, 11)
-    yield table_case(1, 2, IDLE_AND_RANGE, 4)
+    for data in files([*IDLE, (1, LIMIT, wide)]):
+        yield dwell_case(data)
+    yield table_case(1, 3, -10, AROUND_IDLE, 11)
+    yield table_case(1, 2, 0, IDLE_AND_RANGE, 4)
     for i, j in ((1, 3), (1, 2), (2, 3), (2, 2)):       # in no idle row or column, in one, in both
-        yield entry_case(1, 3, AROUND_IDLE, i, j)
-    yield entry_case(1, 2, IDLE_AND_RANGE, 1, 1)
+        yield entry_case(1, 3, 10, AROUND_IDLE, i, j)
+    yield entry_case(1, 2, 0, IDLE_AND_RANGE, 1, 1)
     idle = next(i for i in range(LIMIT) if i not in live)
     for n, sheet, stage in [(1, [-0.0], 1), (2, [1.0, -1.0, 0.0, 0.0], 2), (3, AROUND_IDLE, 2), (3, AROUND_IDLE, 3),
                             (2, IDLE_AND_RANGE, 1), (2, IDLE_AND_RANGE, 2), (3, IDLE_AND_PIVOT, 1),
                             (LIMIT, wide, idle + 1), (LIMIT, wide, live[-1] + 1)]:
-        yield column_case(1, n, sheet, stage, n + 1)
+        yield column_case(1, n, -10, sheet, stage, n + 1)
 
 
 # ==== Moving ====
 
 NEARLY_TWO = 2 - 2.0 ** -52
 
-# A sheet, and the k that it is moved by.
-MOVES: list[tuple[Sheet, int]] = [
+# A sheet, the e of its unit, and the k that it is moved by.
+MOVES: list[tuple[Sheet, int, int]] = [
     # 16 is decided by the exact product: the third rounds to 2^-1022
-    ((1, 1, [2.0 ** -510]), -512), ((1, 1, [2.0 ** -511]), -512), ((1, 1, [NEARLY_TWO * 2.0 ** -511]), -512),
-    ((1, 2, P_SHEET), -10), ((2, 2, [3.0, -1.0, -4.0, 1.0]), 3), ((2, 2, [2.0, -0.0, -1.0, 4.0]), -1),
-    ((1, 2, [-0.0, 0.0, -0.0, 1.0]), 3), ((1, 2, [0.0, -0.0, 0.0, -0.0]), -512),
+    ((1, 1, [2.0 ** -510]), 0, -512), ((1, 1, [2.0 ** -511]), 0, -512), ((1, 1, [NEARLY_TWO * 2.0 ** -511]), 9, -512),
+    ((1, 2, P_SHEET), 0, -10), ((2, 2, [3.0, -1.0, -4.0, 1.0]), -13, 3), ((2, 2, [2.0, -0.0, -1.0, 4.0]), 1, -1),
+    ((1, 2, [-0.0, 0.0, -0.0, 1.0]), -3, 3), ((1, 2, [0.0, -0.0, 0.0, -0.0]), 500, -512),
     # 9 and 10 are not asked
-    ((1, 2, [0.0, -1.0, -1.0, 0.0]), 1), ((1, 1, [2.0 ** 1022]), 1), ((2, 1, [2.0 ** 1022]), -512),
+    ((1, 2, [0.0, -1.0, -1.0, 0.0]), -10, 1), ((1, 1, [2.0 ** 1022]), 0, 1), ((2, 1, [2.0 ** 1022]), 0, -512),
     # both ends of the range of results, at either end of the range of k and at 0
-    ((1, 1, [2.0 ** 511]), 512), ((1, 1, [2.0 ** 512]), 512), ((2, 1, [NEARLY_TWO * 2.0 ** 511]), 512),
-    ((1, 2, [SMALLEST, -LARGEST, -SMALLEST, LARGEST]), 0), ((1, 2, [1.0, -LARGEST, 0.0, 1.0]), 1),
-    ((2, 2, [1.0, 0.0, -SMALLEST, 1.0]), -1), ((2, 2, [1.0, -LARGEST, -SMALLEST, 1.0]), -1),
+    ((1, 1, [2.0 ** 511]), 0, 512), ((1, 1, [2.0 ** 512]), 0, 512), ((2, 1, [NEARLY_TWO * 2.0 ** 511]), -1, 512),
+    ((1, 2, [SMALLEST, -LARGEST, -SMALLEST, LARGEST]), 512, 0), ((1, 2, [1.0, -LARGEST, 0.0, 1.0]), 0, 1),
+    ((2, 2, [1.0, 0.0, -SMALLEST, 1.0]), 0, -1), ((2, 2, [1.0, -LARGEST, -SMALLEST, 1.0]), -100, -1),
     # past the range of k
-    ((1, 1, [1.0]), 513), ((2, 1, [1.0]), -513), ((1, 1, [1.0]), 2 ** 32), ((1, 1, [1.0]), LEAST_INT64),
-    ((2, 1, [1.0]), GREATEST_INT64),
-    # each question before the next
-    ((1, 2, [5.0, 1.0, NAN, 1.0]), 600), ((2, 2, [1.0, -2.0 ** -1074, 1.0, 1.0]), 600),
-    ((1, 2, [1.0, -2.0 ** -1074, 0.0, 1.0]), 600), ((1, 2, [1.0, 0.0, 0.0, LARGEST]), 513), ((2, 1, [-0.0]), 1)]
+    ((1, 1, [1.0]), 0, 513), ((2, 1, [1.0]), 0, -513), ((1, 1, [1.0]), 0, 2 ** 32), ((1, 1, [1.0]), 0, LEAST_INT64),
+    ((2, 1, [1.0]), 0, GREATEST_INT64),
+    # both ends of the range of e + k, and past them
+    ((1, 1, [1.0]), 512, -512), ((2, 1, [1.0]), -512, 512), ((1, 1, [1.0]), 500, 12), ((1, 1, [1.0]), 500, 13),
+    ((2, 1, [1.0]), -100, -412), ((2, 1, [1.0]), -100, -413), ((1, 1, [1.0]), 512, 1), ((1, 1, [1.0]), -512, -1),
+    ((2, 1, [1.0]), 512, 512), ((1, 1, [1.0]), -512, -512), ((1, 1, [1.0]), -512, 0), ((1, 1, [1.0]), 1, 512),
+    # e past its range by one, where e + k is in it, and by far
+    ((1, 1, [1.0]), 513, -1), ((2, 1, [1.0]), -513, 1), ((1, 1, [1.0]), 2 ** 32, 0), ((1, 1, [1.0]), LEAST_INT64, 512),
+    ((1, 1, [1.0]), GREATEST_INT64, 1),
+    # each question before the next: 12 before 6, 6 to 8 before 15 and 17, 15 before 17, 17 before 16
+    ((1, 2, [NAN] * 4), 513, 600), ((1, 2, [5.0, 1.0, NAN, 1.0]), 0, 600),
+    ((2, 2, [1.0, -2.0 ** -1074, 1.0, 1.0]), 0, 600), ((1, 2, [1.0, -2.0 ** -1074, 0.0, 1.0]), 0, 600),
+    ((1, 2, [1.0, 0.0, 0.0, LARGEST]), 0, 513), ((2, 1, [-0.0]), 0, 1),
+    ((1, 2, [1.0, -2.0 ** -1074, 0.0, 1.0]), 512, 1), ((1, 1, [LARGEST]), 512, 513), ((1, 1, [SMALLEST]), -512, -513),
+    ((2, 1, [1.0]), -512, 1000), ((1, 1, [LARGEST]), 512, 1), ((2, 1, [SMALLEST]), -512, -1),
+    ((2, 1, [LARGEST]), 511, 1)]
 
 
-def move_case(reading: int, n: int, sheet: list[float], k: int, room: int) -> Case:
-    answer = move(reading, n, sheet, k, room)
+def move_case(reading: int, n: int, e: int, sheet: list[float], k: int, room: int) -> Case:
+    answer = move(reading, n, e, sheet, k, room)
     area = [AREA_NUMBER] * room
     if isinstance(answer, Moved):
         area[:n * n] = answer.numbers
-    return Case(packed("m", [reading, n, room, k % 2 ** 64, *(bits_of(x) for x in sheet)]),
-                line(answer, [], [bits_of(x) for x in area]))
+    return Case(packed("m", [reading, n, e, room, k, *(bits_of(x) for x in sheet)]),
+                line(answer, [answer.e] if isinstance(answer, Moved) else [], [bits_of(x) for x in area]))
 
 
 def move_edges(rng: random.Random, count: int) -> Iterator[tuple[Sheet, int]]:
@@ -507,7 +570,7 @@ def move_edges(rng: random.Random, count: int) -> Iterator[tuple[Sheet, int]]:
         while True:
             reading, n, step = rng.choice([1, 2]), rng.randint(1, 6), 1 if at % 2 else -1
             sheet = sheet_to_move(rng, reading, n)
-            moved = [isinstance(move(reading, n, sheet, step * size, n * n), Moved) for size in range(513)]
+            moved = [isinstance(move(reading, n, IN_SECONDS, sheet, step * size, n * n), Moved) for size in range(513)]
             if not all(moved):
                 break
         first = moved.index(False)
@@ -516,18 +579,20 @@ def move_edges(rng: random.Random, count: int) -> Iterator[tuple[Sheet, int]]:
 
 
 def moves(rng: random.Random) -> Iterator[Case]:
-    """Questions 1 to 4 in order; the sheets above; 32 stages, once with a last number that cannot be moved so far;
-    random sheets by the last k that moves them and the first that does not."""
-    for reading, n, sheet, room in [(0, 0, [NAN], 0), (3, 1, [1.0], 1), (1, 33, [1.0] * 1089, 5),
-                                    (2, 2 ** 63, [NAN], 0), (1, 2, [NAN] * 3, 0), (2, 2, [NAN] * 4, 3)]:
-        yield move_case(reading, n, sheet, 600, room)
-    for at, ((reading, n, sheet), k) in enumerate(MOVES):
-        yield move_case(reading, n, sheet, k, n * n + at % 3)
+    """Questions 1, 2, 12, 3 and 4 in order; the sheets above; 32 stages, once with a last number that cannot be moved
+    so far; random sheets by the last k that moves them and the first that does not."""
+    for reading, n, e, sheet, room in [(0, 0, 513, [NAN], 0), (3, 1, 0, [1.0], 1), (1, 33, 0, [1.0] * 1089, 5),
+                                       (2, 2 ** 63, -513, [NAN], 0), (1, 2, 513, [NAN] * 3, 0),
+                                       (2, 2, LEAST_INT64, [NAN] * 5, 0), (1, 2, 512, [NAN] * 3, 0),
+                                       (2, 2, -512, [NAN] * 4, 3)]:
+        yield move_case(reading, n, e, sheet, 600, room)
+    for at, ((reading, n, sheet), e, k) in enumerate(MOVES):
+        yield move_case(reading, n, e, sheet, k, n * n + at % 3)
     sheet = random_sheet(rng, 1, LIMIT, STYLES[0])
-    yield move_case(1, LIMIT, sheet, -10, 1030)
-    yield move_case(1, LIMIT, sheet[:-1] + [LARGEST], 10, 1024)
+    yield move_case(1, LIMIT, 0, sheet, -10, 1030)
+    yield move_case(1, LIMIT, -10, sheet[:-1] + [LARGEST], 10, 1024)
     for (reading, n, sheet), k in move_edges(rng, 4):
-        yield move_case(reading, n, sheet, k, n * n + 1)
+        yield move_case(reading, n, IN_SECONDS, sheet, k, n * n + 1)
 
 
 # ==== Files ====
@@ -540,18 +605,31 @@ def changed(data: bytes, at: int, new: bytes) -> bytes:
 def damaged(data: bytes, n: int, room: int) -> list[Case]:
     """A file of n stages, whole and with each kind of damage."""
     row = 8 + 8 * n
+    rows = range(len(data) - n * row, len(data), row)
     cases = [file_case(data[:at], room) for at in range(len(data) + 1)]
-    for start, width in [(0, 10)] + [(at, 8) for at in range(10, len(data), row)]:
+    for start, width in [(0, rows[0])] + [(at, 8) for at in rows]:
         for at in range(start, start + width):
             cases.append(file_case(changed(data, at, bytes([(data[at] + 1) % 256])), room))
         cases.append(file_case(changed(data, start, struct.pack("<I", 2 ** 32 - 1)), room))
     return cases + [file_case(data + b"\0", room), file_case(data, n * n), file_case(data, n * n - 1)]
 
 
+def heads() -> Iterator[Case]:
+    """Files of one stage with heads of every length up to 8, and with many e: at both ends of its range and past them,
+    and words that are in it only by their low byte, or without their sign."""
+    rows = make_rows(1, [bits_of(2.0)])
+    for length in range(9):
+        yield file_case(record(HEAD, b"\1\0\1\0\0\0\0\0"[:length]) + rows, 2)
+    for e in (512, -512, 511, -511, 513, -513, 255, -255, 256, -256, 768, -768, 32767, -32768, 0x0a00, -0x0a00, 1, -1):
+        yield file_case(make_head(2, 1, e) + rows, 2)
+    yield file_case(make_head(1, 1, 513) + rows[:5], 0)     # 12 before 11 at row 1, and before 4
+    yield file_case(make_head(3, 33, 600), 0)
+
+
 def cases() -> list[Case]:
-    one_nan = make_file_words(2, 1, [0xFFF4000012345678])
-    return [*(dwell_case(data) for data in inputs()), *calls(), *damaged(make_file(1, 2, P_SHEET), 2, 5),
-            *damaged(one_nan, 1, 5), *saves(random.Random(20260202)), *columns(random.Random(20260303)),
+    one_nan = make_short_file_words(2, 1, [0xFFF4000012345678])
+    return [*(dwell_case(data) for data in inputs()), *calls(), *damaged(make_file(1, 2, -10, P_SHEET), 2, 5),
+            *damaged(one_nan, 1, 5), *heads(), *saves(random.Random(20260202)), *columns(random.Random(20260303)),
             *idle_stages(random.Random(20260404)), *moves(random.Random(20260505))]
 
 

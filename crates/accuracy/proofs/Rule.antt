@@ -29,7 +29,7 @@ use Rattle.definitions.specs.Fractions.{Fraction}
 use Rattle.definitions.specs.Accuracy.{Binary64, Within, OnlyInverse, extended, Accurate, AccurateColumn, AccuracyRule}
 use Rattle.definitions.specs.Column.{columnInput, columnOf, columnInRange, columnQuestions}
 use Rattle.accuracy.specs.ColumnRule.{InverseRule, ColumnRule}
-use Rattle.definitions.specs.Questions.{pass, ask, question1, question2, question3, question4, question10, numberQuestions, tableInput, tableQuestions, Accepted, _then_}
+use Rattle.definitions.specs.Questions.{pass, ask, question1, question4, question10, numberQuestions, tableInput, tableQuestions, Accepted, _then_}
 use Rattle.rounding.specs.Good.{one·units}
 use Rattle.rates_accuracy.specs.LeavingRatesAccuracy.{identityColumn, EngineWithin, EngineAccuracy}
 use Rattle.inverse.specs.Reduction.{delta, Apart, fraction, EntryReduction}
@@ -37,7 +37,7 @@ use Rattle.inverse.specs.ExactRatios.{RatiosExist}
 use Rattle.inverse.specs.RowForms.{InUnits}
 use Rattle.inverse.specs.ReducedReadings.{LeavingRatesInverse, MarginsReduced}
 use Rattle.margins_accuracy.specs.MarginsAccuracy.{GoodMargins, sizesInUnits, marginsInUnits, MarginsAccuracy}
-use Rattle.steps.proofs.QuestionLaws.{then-first, then-next, ask-yes}
+use Rattle.steps.proofs.QuestionLaws.{then-first, then-next, ask-yes, reading-passed}
 use Rattle.rates_accuracy.proofs.Input.{table-numbers, column-numbers, column-stage, size-is, diagonal-is, input-positive}
 use Rattle.rates_accuracy.proofs.CompactEquations.{stage}
 use Rattle.rates_accuracy.proofs.LiveSystem.{sheetEquations, size-to-idle, exit-live, sheet-out, live-good, live-out, live-solves}
@@ -201,17 +201,17 @@ accurate-table reading n sheet fit q e r =
 
 pub accuracy-rule : AccuracyRule
 unfolding AccuracyRule Accepted tableQuestions tableInput question10
-accuracy-rule reading n sheet fit accepted =
-    let input : tableInput reading n sheet (n * n) ≡ pass = then-first (tableInput reading n sheet (n * n)) (question10 reading n sheet) accepted in
-    let range : question10 reading n sheet ≡ pass = then-next (tableInput reading n sheet (n * n)) (question10 reading n sheet) accepted in
+accuracy-rule reading n e sheet fit accepted =
+    let input : tableInput reading n e sheet (n * n) ≡ pass = then-first (tableInput reading n e sheet (n * n)) (question10 reading n sheet) accepted in
+    let range : question10 reading n sheet ≡ pass = then-next (tableInput reading n e sheet (n * n)) (question10 reading n sheet) accepted in
     accurate-table reading n sheet fit
-    (then-first (question1 reading) (question2 n then question3 n (length sheet) then question4 (n * n) (n * n) then numberQuestions reading n sheet) input)
-    (table-numbers reading n sheet (n * n) input)
+    (reading-passed reading n e (length sheet) (question4 (n * n) (n * n) then numberQuestions reading n sheet) input)
+    (table-numbers reading n e sheet (n * n) input)
     (ask-yes (everyStepInRange reading n sheet) 10 0 0 range)
 
 pub column-rule : ColumnRule
 unfolding ColumnRule columnQuestions
-column-rule reading n sheet room stage fit accepted =
-    let input = then-first (columnInput reading n sheet room stage) (ask (columnInRange n sheet (stage - 1)) 10 0 0) accepted in
-    accurate-column n sheet fit (column-numbers reading n sheet room stage input) (stage - 1) (column-stage reading n sheet room stage input)
-    (ask-yes (columnInRange n sheet (stage - 1)) 10 0 0 (then-next (columnInput reading n sheet room stage) (ask (columnInRange n sheet (stage - 1)) 10 0 0) accepted))
+column-rule reading n e sheet room stage fit accepted =
+    let input = then-first (columnInput reading n e sheet room stage) (ask (columnInRange n sheet (stage - 1)) 10 0 0) accepted in
+    accurate-column n sheet fit (column-numbers reading n e sheet room stage input) (stage - 1) (column-stage reading n e sheet room stage input)
+    (ask-yes (columnInRange n sheet (stage - 1)) 10 0 0 (then-next (columnInput reading n e sheet room stage) (ask (columnInRange n sheet (stage - 1)) 10 0 0) accepted))

@@ -2,6 +2,7 @@
 use Prim.Native.Nat.{ℕ, _-_}
 use mathlib.Core.List.{List}
 use mathlib.Core.Path.{_≡_}
+use lib.IntN.{ℤ}
 use lib.Ieee.{Float}
 use Rattle.definitions.specs.Fractions.{Fraction}
 use Rattle.definitions.specs.Sheet.{takesPart, allowance}
@@ -22,7 +23,7 @@ InverseRule =
 -- Theorem: "The accuracy rule covers this column whenever it is accepted."
 unfoldable pub ColumnRule : Type 0
 ColumnRule =
-    (reading n : ℕ) (sheet : List Float) (room stage : ℕ)
+    (reading n : ℕ) (e : ℤ) (sheet : List Float) (room stage : ℕ)
     → Binary64 sheet
-    → columnQuestions reading n sheet room stage ≡ pass
+    → columnQuestions reading n e sheet room stage ≡ pass
     → AccurateColumn n (takesPart 1 n sheet) (allowance 1 n) (matrix 1 n sheet) (stage - 1) (λ i. entry 1 n sheet i (stage - 1))

@@ -1,5 +1,6 @@
 -- The declared answers as document 01's: what was asked for, or a number, a row and a column.
 use Prim.Native.Nat.{ℕ}
+use lib.IntN.{ℤ}
 use lib.Ieee.{Float}
 use Rattle.definitions.specs.File.{Head}
 use Rattle.definitions.specs.Services.{Answer, given, refused}
@@ -23,13 +24,13 @@ entryGiven (entry.Seconds value) = given value
 entryGiven (entry.Refused number row column) = refused number row column
 
 abbrev pub headGiven : Loaded → Answer Head
-headGiven (loaded.Sheet reading n) = given (record { reading = reading; n = n })
+headGiven (loaded.Sheet reading n e) = given (record { reading = reading; n = n; e = e })
 headGiven (loaded.Refused number row column) = refused number row column
 
 abbrev pub savedGiven : Saved → Answer ℕ
 savedGiven (saved.File length) = given length
 savedGiven (saved.Refused number row column) = refused number row column
 
-abbrev pub movedGiven : Moved → Answer (Unit {0})
-movedGiven moved.Sheet = given tt
+abbrev pub movedGiven : Moved → Answer ℤ
+movedGiven (moved.Sheet e) = given e
 movedGiven (moved.Refused number row column) = refused number row column

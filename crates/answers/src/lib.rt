@@ -33,11 +33,12 @@ pub enum Entry {
     },
 }
 
-// File reading: the reading and the number of stages.
+// File reading: the reading, the number of stages, and e, the unit being 2^e seconds.
 pub enum Loaded {
     Sheet {
         reading: usize,
         n: usize,
+        e: i64,
     },
     Refused {
         number: usize,
@@ -46,9 +47,11 @@ pub enum Loaded {
     },
 }
 
-// Moving to another time unit: the moved numbers fill the area, and nothing else is handed over.
+// Moving to another time unit: the moved sheet's e; its numbers fill the area.
 pub enum Moved {
-    Sheet,
+    Sheet {
+        e: i64,
+    },
     Refused {
         number: usize,
         row: usize,

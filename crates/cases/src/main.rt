@@ -29,6 +29,14 @@ fn write_count(count: usize) {
     io::print_decimal(STDOUT_FILENO, count as u64);
 }
 
+// In decimal, with a minus sign where it is negative.
+fn write_signed(number: i64) {
+    let mut field = [0u8; 32];
+    let end = digits::put_integer(number, b' ', 0, &mut field);
+    write_text(b" ");
+    write_text(&field[..end - 1]);
+}
+
 fn write_word(word: u64) {
     write_text(b" ");
     io::print_hex(STDOUT_FILENO, word, 16);
@@ -87,6 +95,17 @@ fn count(case: &[u8], k: usize) -> usize
     word(case, k) as usize
 }
 
+// The same word as a signed number, whose two's complement it is.
+fn signed(case: &[u8], k: usize) -> i64
+    requires { ⌜ k ≤ 2048 ⌝ }
+{
+    let word = word(case, k);
+    if word < 0x8000_0000_0000_0000 {
+        return word as i64;
+    }
+    -1 - ((u64::MAX - word) as i64)
+}
+
 fn least(a: usize, b: usize) -> usize
     ensures { λ r. ⌜ (r ≤ a) × (r ≤ b) ⌝ }
 {
@@ -95,7 +114,7 @@ fn least(a: usize, b: usize) -> usize
 
 // The numbers behind the first `from` words of a case; returns how many there are.
 fn numbers(case: &[u8], from: usize, sheet: &mut [f64]) -> usize
-    requires { ⌜ (from ≤ 4) × (length (now sheet) ≤ 1100) ⌝ }
+    requires { ⌜ (from ≤ 5) × (length (now sheet) ≤ 1100) ⌝ }
     ensures { λ r. ⌜ r ≤ length (now (sheet .entry)) ⌝ }
 {
     let given = least(sheet.len(), case.len() / 8 - least(case.len() / 8, from));
@@ -107,7 +126,7 @@ fn numbers(case: &[u8], from: usize, sheet: &mut [f64]) -> usize
 
 // The same as words.
 fn words(case: &[u8], from: usize, sheet: &mut [u64]) -> usize
-    requires { ⌜ (from ≤ 4) × (length (now sheet) ≤ 1100) ⌝ }
+    requires { ⌜ (from ≤ 5) × (length (now sheet) ≤ 1100) ⌝ }
     ensures { λ r. ⌜ r ≤ length (now (sheet .entry)) ⌝ }
 {
     let given = least(sheet.len(), case.len() / 8 - least(case.len() / 8, from));
@@ -126,14 +145,15 @@ fn write_filled(number: usize, row: usize, column: usize, allowance: usize, area
     write_numbers(area);
 }
 
-// t: reading, n, the length of the answer area, and the sheet's numbers.
-fn try_table(reading: usize, n: usize, sheet: &[f64], area: &mut [f64]) {
+// t: reading, n, e, the length of the answer area, and the sheet's numbers.
+fn try_table(reading: usize, n: usize, e: i64, sheet: &[f64], area: &mut [f64]) {
     let mut allowance = 0;
     let mut row = 0;
     let mut column = 0;
     let number = table_calls::table(
         reading,
         n,
+        e,
         sheet,
         area,
         &mut allowance,
@@ -145,25 +165,27 @@ fn try_table(reading: usize, n: usize, sheet: &[f64], area: &mut [f64]) {
 
 fn run_table(case: &[u8]) {
     let mut sheet = [0.0; PLACES];
-    let given = numbers(case, 3, &mut sheet);
+    let given = numbers(case, 4, &mut sheet);
     let mut area = [0.5; PLACES];
-    let room = least(count(case, 2), PLACES);
+    let room = least(count(case, 3), PLACES);
     try_table(
         count(case, 0),
         count(case, 1),
+        signed(case, 2),
         &sheet[..given],
         &mut area[..room],
     );
 }
 
-// c: reading, n, the length of the answer area, the stage, and the sheet's numbers.
-fn try_column(reading: usize, n: usize, sheet: &[f64], stage: usize, area: &mut [f64]) {
+// c: reading, n, e, the length of the answer area, the stage, and the sheet's numbers.
+fn try_column(reading: usize, n: usize, e: i64, sheet: &[f64], stage: usize, area: &mut [f64]) {
     let mut allowance = 0;
     let mut row = 0;
     let mut column = 0;
     let number = table_calls::column(
         reading,
         n,
+        e,
         sheet,
         stage,
         area,
@@ -176,23 +198,34 @@ fn try_column(reading: usize, n: usize, sheet: &[f64], stage: usize, area: &mut 
 
 fn run_column(case: &[u8]) {
     let mut sheet = [0.0; PLACES];
-    let given = numbers(case, 4, &mut sheet);
+    let given = numbers(case, 5, &mut sheet);
     let mut area = [0.5; PLACES];
-    let room = least(count(case, 2), PLACES);
+    let room = least(count(case, 3), PLACES);
     try_column(
         count(case, 0),
         count(case, 1),
+        signed(case, 2),
         &sheet[..given],
-        count(case, 3),
+        count(case, 4),
         &mut area[..room],
     );
 }
 
-fn try_entry(reading: usize, n: usize, sheet: &[f64], i: usize, j: usize) {
+fn try_entry(reading: usize, n: usize, e: i64, sheet: &[f64], i: usize, j: usize) {
     let mut seconds = 0.0;
     let mut row = 0;
     let mut column = 0;
-    let number = table_calls::entry(reading, n, sheet, i, j, &mut seconds, &mut row, &mut column);
+    let number = table_calls::entry(
+        reading,
+        n,
+        e,
+        sheet,
+        i,
+        j,
+        &mut seconds,
+        &mut row,
+        &mut column,
+    );
     write_refusal(number, row, column);
     if number == 0 {
         write_word(rounding::to_word(seconds));
@@ -200,27 +233,29 @@ fn try_entry(reading: usize, n: usize, sheet: &[f64], i: usize, j: usize) {
     write_text(b"\n");
 }
 
-// e: reading, n, the two stages, and the sheet's numbers.
+// e: reading, n, e, the two stages, and the sheet's numbers.
 fn run_entry(case: &[u8]) {
     let mut sheet = [0.0; PLACES];
-    let given = numbers(case, 4, &mut sheet);
+    let given = numbers(case, 5, &mut sheet);
     try_entry(
         count(case, 0),
         count(case, 1),
+        signed(case, 2),
         &sheet[..given],
-        count(case, 2),
         count(case, 3),
+        count(case, 4),
     );
 }
 
-// a: reading, n and the sheet's numbers; all 32 × 32 entries, each by itself.
+// a: reading, n, e and the sheet's numbers; all 32 × 32 entries, each by itself.
 fn run_entries(case: &[u8]) {
     let mut sheet = [0.0; PLACES];
-    let given = numbers(case, 2, &mut sheet);
+    let given = numbers(case, 3, &mut sheet);
     for k in 0..1024 {
         try_entry(
             count(case, 0),
             count(case, 1),
+            signed(case, 2),
             &sheet[..given],
             k / 32 + 1,
             k % 32 + 1,
@@ -232,13 +267,15 @@ fn run_entries(case: &[u8]) {
 fn write_head(told: Loaded) {
     let mut reading = 0;
     let mut n = 0;
+    let mut e = 0;
     let mut row = 0;
     let mut column = 0;
-    let number = out_places::hand_head(told, &mut reading, &mut n, &mut row, &mut column);
+    let number = out_places::hand_head(told, &mut reading, &mut n, &mut e, &mut row, &mut column);
     write_refusal(number, row, column);
     if number == 0 {
         write_count(reading);
         write_count(n);
+        write_signed(e);
     }
 }
 
@@ -261,7 +298,7 @@ fn run_file(case: &[u8]) {
     read_numbers(&case[from..], &mut numbers[..room]);
 }
 
-// s: reading, n, the number of bytes lent, and the sheet's words. What is saved is loaded again.
+// s: reading, n, e, the number of bytes lent, and the sheet's words. What is saved is loaded again.
 fn write_saved(told: Saved) -> usize {
     let mut length = 0;
     let mut row = 0;
@@ -274,8 +311,8 @@ fn write_saved(told: Saved) -> usize {
     length
 }
 
-fn save_words(reading: usize, n: usize, sheet: &[u64], area: &mut [u8]) {
-    let length = write_saved(file::save_words(reading, n, sheet, area));
+fn save_words(reading: usize, n: usize, e: i64, sheet: &[u64], area: &mut [u8]) {
+    let length = write_saved(file::save_words(reading, n, e, sheet, area));
     write_bytes(area);
     let mut again = [101u64; PLACES];
     read_words(
@@ -286,20 +323,21 @@ fn save_words(reading: usize, n: usize, sheet: &[u64], area: &mut [u8]) {
 
 fn run_save(case: &[u8]) {
     let mut sheet = [0u64; PLACES];
-    let given = words(case, 3, &mut sheet);
+    let given = words(case, 4, &mut sheet);
     let mut area = [7u8; BYTES];
-    let room = least(count(case, 2), BYTES);
+    let room = least(count(case, 3), BYTES);
     save_words(
         count(case, 0),
         count(case, 1),
+        signed(case, 2),
         &sheet[..given],
         &mut area[..room],
     );
 }
 
 // n: the same with the sheet's numbers.
-fn save_numbers(reading: usize, n: usize, sheet: &[f64], area: &mut [u8]) {
-    let length = write_saved(file::save_numbers(reading, n, sheet, area));
+fn save_numbers(reading: usize, n: usize, e: i64, sheet: &[f64], area: &mut [u8]) {
+    let length = write_saved(file::save_numbers(reading, n, e, sheet, area));
     write_bytes(area);
     let mut again = [0.5; PLACES];
     read_numbers(
@@ -310,44 +348,52 @@ fn save_numbers(reading: usize, n: usize, sheet: &[f64], area: &mut [u8]) {
 
 fn run_save_numbers(case: &[u8]) {
     let mut sheet = [0.0; PLACES];
-    let given = numbers(case, 3, &mut sheet);
+    let given = numbers(case, 4, &mut sheet);
     let mut area = [7u8; BYTES];
-    let room = least(count(case, 2), BYTES);
+    let room = least(count(case, 3), BYTES);
     save_numbers(
         count(case, 0),
         count(case, 1),
+        signed(case, 2),
         &sheet[..given],
         &mut area[..room],
     );
 }
 
-// The signed number whose two's complement a word is.
-fn signed(word: u64) -> i64 {
-    if word < 0x8000_0000_0000_0000 {
-        return word as i64;
-    }
-    -1 - ((u64::MAX - word) as i64)
-}
-
-// m: reading, n, the length of the second area, k, and the sheet's numbers.
-fn try_move(reading: usize, n: usize, sheet: &[f64], k: i64, area: &mut [f64]) {
+// m: reading, n, e, the length of the second area, k, and the sheet's numbers.
+fn try_move(reading: usize, n: usize, e: i64, sheet: &[f64], k: i64, area: &mut [f64]) {
+    let mut unit = 0;
     let mut row = 0;
     let mut column = 0;
-    let number = move_calls::move_sheet(reading, n, sheet, k, area, &mut row, &mut column);
+    let number = move_calls::move_sheet(
+        reading,
+        n,
+        e,
+        sheet,
+        k,
+        area,
+        &mut unit,
+        &mut row,
+        &mut column,
+    );
     write_refusal(number, row, column);
+    if number == 0 {
+        write_signed(unit);
+    }
     write_numbers(area);
 }
 
 fn run_move(case: &[u8]) {
     let mut sheet = [0.0; PLACES];
-    let given = numbers(case, 4, &mut sheet);
+    let given = numbers(case, 5, &mut sheet);
     let mut area = [0.5; PLACES];
-    let room = least(count(case, 2), PLACES);
+    let room = least(count(case, 3), PLACES);
     try_move(
         count(case, 0),
         count(case, 1),
+        signed(case, 2),
         &sheet[..given],
-        signed(word(case, 3)),
+        signed(case, 4),
         &mut area[..room],
     );
 }

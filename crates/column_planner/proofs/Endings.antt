@@ -3,6 +3,7 @@ use mathlib.Core.Path.{_≡_, sym, ap, ap₂, subst, _∙_}
 use Prim.Native.Nat.{ℕ, _+_, _-_, _<_}
 use mathlib.Core.Bool.{Bool, true, false, _&&_, and-false}
 use mathlib.Core.List.{List, _++_}
+use lib.IntN.{ℤ}
 use lib.ListN.{length, getD, drop}
 use lib.Ieee.{Float, nan}
 use Rattle.exact.proofs.Bools.{holds, contrary}
@@ -113,38 +114,38 @@ accurate-same : {n E j : ℕ} {on : ℕ → Bool} {A : ℕ → ℕ → Fraction}
 accurate-same {E = E} {j = j} {on = on} y e a =
     record { X = a .X; exact = a .exact; within = λ i l. subst (λ z. Within E z (extended on (a .X) i j)) (e i l) (a .within i l) }
 
-module _ (reading n : ℕ) (sheet : List Float) (stage : ℕ) (before : List Float) where
-  refused-with : {number row column : ℕ} → columnQuestions reading n sheet (length before) stage ≡ refuse number row column
-      → ColumnDone reading n sheet stage before before (given-column.Refused number row column)
+module _ (reading n : ℕ) (e : ℤ) (sheet : List Float) (stage : ℕ) (before : List Float) where
+  refused-with : {number row column : ℕ} → columnQuestions reading n e sheet (length before) stage ≡ refuse number row column
+      → ColumnDone reading n e sheet stage before before (given-column.Refused number row column)
   unfolding columnAnswer columnArea
-  refused-with e =
+  refused-with is =
       record {
-        answered = ap (λ q. answer q (allowance 1 n)) (sym e);
-        area = ap (λ q. filled q (stageColumn n sheet stage) before) (sym e);
-        accurate = λ p. absurd (never-both e p);
+        answered = ap (λ q. answer q (allowance 1 n)) (sym is);
+        area = ap (λ q. filled q (stageColumn n sheet stage) before) (sym is);
+        accurate = λ p. absurd (never-both is p);
       }
 
-  pub column-refused : {number row column : ℕ} → columnInput reading n sheet (length before) stage ≡ refuse number row column
-      → ColumnDone reading n sheet stage before before (given-column.Refused number row column)
+  pub column-refused : {number row column : ℕ} → columnInput reading n e sheet (length before) stage ≡ refuse number row column
+      → ColumnDone reading n e sheet stage before before (given-column.Refused number row column)
   unfolding columnQuestions
-  column-refused e = refused-with (rw e)
+  column-refused is = refused-with (rw is)
 
-  module _ (passed : columnInput reading n sheet (length before) stage ≡ pass) {x : List Float} {ok : Bool} (stepped : ColumnStepped n sheet (stage - 1) ok x) where
-    pub column-out-of-range : ok ≡ false → ColumnDone reading n sheet stage before before (given-column.Refused 10 0 0)
+  module _ (passed : columnInput reading n e sheet (length before) stage ≡ pass) {x : List Float} {ok : Bool} (stepped : ColumnStepped n sheet (stage - 1) ok x) where
+    pub column-out-of-range : ok ≡ false → ColumnDone reading n e sheet stage before before (given-column.Refused 10 0 0)
     unfolding columnQuestions
-    column-out-of-range e = refused-with (rw (passed, ← stepped .range, e))
+    column-out-of-range bad = refused-with (rw (passed, ← stepped .range, bad))
 
     pub column-given : {after : List Float} {allowed : ℕ} → Binary64 sheet → ok ≡ true
         → after ≡ list (vector x) n ++ drop n before → allowed ≡ allowance 1 n
-        → ColumnDone reading n sheet stage before after (given-column.Allowed allowed)
+        → ColumnDone reading n e sheet stage before after (given-column.Allowed allowed)
     unfolding columnAnswer columnArea columnQuestions stageColumn
-    column-given {after} fit e written a =
+    column-given {after} fit good written a =
         let f : ℕ → Float = λ i. entry 1 n sheet i (stage - 1) in
-        let asked : columnQuestions reading n sheet (length before) stage ≡ pass = rw (passed, ← stepped .range, e) in
-        let same : after ≡ list f n ++ drop n before = written ∙ ap (λ (xs : List Float). xs ++ drop n before) (list-same (vector x) f n (stepped .entries (holds e))) in
+        let asked : columnQuestions reading n e sheet (length before) stage ≡ pass = rw (passed, ← stepped .range, good) in
+        let same : after ≡ list f n ++ drop n before = written ∙ ap (λ (xs : List Float). xs ++ drop n before) (list-same (vector x) f n (stepped .entries (holds good))) in
         record {
           answered = ap given a ∙ ap (λ q. answer q (allowance 1 n)) (sym asked);
           area = same ∙ ap (λ (k : ℕ). list f n ++ drop k before) (sym (length-list f n)) ∙ ap (λ q. filled q (list f n) before) (sym asked);
           accurate = λ p. accurate-same (λ i. getD after i nan) (λ i l. sym (ap (λ (xs : List Float). getD xs i nan) same ∙ place-of-list f n (drop n before) i l))
-              (accurate-column n sheet fit (column-numbers reading n sheet (length before) stage passed) (stage - 1) (column-stage reading n sheet (length before) stage passed) (holds (sym (stepped .range) ∙ e)));
+              (accurate-column n sheet fit (column-numbers reading n e sheet (length before) stage passed) (stage - 1) (column-stage reading n e sheet (length before) stage passed) (holds (sym (stepped .range) ∙ good)));
         }

@@ -61,12 +61,13 @@ fn steps(n: usize, j: usize, sheet: &[f64], b: &mut [f64; 32]) -> bool
 fn column_of_sheet(
     reading: usize,
     n: usize,
+    e: i64,
     sheet: &[f64],
     stage: usize,
     answer: &mut [f64],
 ) -> Filled
-    requires { ⌜ columnInput reading n (now sheet) (length (now answer)) stage ≡ pass ⌝ }
-    ensures { λ r. ⌜ ColumnDone reading n (now (sheet .entry)) stage (now (answer .entry)) (now (answer .exit)) r ⌝ }
+    requires { ⌜ columnInput reading n e (now sheet) (length (now answer)) stage ≡ pass ⌝ }
+    ensures { λ r. ⌜ ColumnDone reading n e (now (sheet .entry)) stage (now (answer .entry)) (now (answer .exit)) r ⌝ }
 {
     let mut b = [0.0; 32];
     if steps(n, stage - 1, sheet, &mut b) {
@@ -86,13 +87,14 @@ fn column_of_sheet(
 pub fn one_column(
     reading: usize,
     n: usize,
+    e: i64,
     sheet: &[f64],
     stage: usize,
     answer: &mut [f64],
 ) -> Filled
-    ensures { λ r. ⌜ ColumnDone reading n (now (sheet .entry)) stage (now (answer .entry)) (now (answer .exit)) r ⌝ }
+    ensures { λ r. ⌜ ColumnDone reading n e (now (sheet .entry)) stage (now (answer .entry)) (now (answer .exit)) r ⌝ }
 {
-    let asked = sheet::column_input(reading, n, sheet, answer.len(), stage);
+    let asked = sheet::column_input(reading, n, e, sheet, answer.len(), stage);
     if asked.number != 0 {
         return Filled::Refused {
             number: asked.number,
@@ -100,5 +102,5 @@ pub fn one_column(
             column: asked.column,
         };
     }
-    column_of_sheet(reading, n, sheet, stage, answer)
+    column_of_sheet(reading, n, e, sheet, stage, answer)
 }

@@ -8,16 +8,16 @@ use Rattle.definitions.specs.Compact.{stagesWith, rank, compact}
 use Rattle.definitions.specs.Margins.{sumWith, sumWithInRange, hOf, kBefore, h, a, kept, scaled, keptSystem, y, known, joined, xAfter, ratioInRange, scaledInRange, backInRange, joinInRange, everyStep, entry, marginsInRange}
 use Rattle.definitions.specs.Sheet.{size, diagonal, system, idle, takesPart, allowance}
 use Rattle.definitions.specs.Table.{liveCount, liveSystem, liveBegun, liveEntry, entry as entry·Table, everyStepInRange}
-use Rattle.definitions.specs.Questions.{askRow, askRows, askStages, question1, question2, question3, question4, question5, question6, rightSign, question7, largeEnough, question8, moves, leaves, getsOut, notTrapped, question9, question10, placeQuestions, numberQuestions, tableInput, tableQuestions, entryInput, entryQuestions, Accepted}
+use Rattle.definitions.specs.Questions.{askRow, askRows, askStages, question1, question2, exponentInRange, question12, question3, sizeQuestions, shapeQuestions, question4, question5, question6, rightSign, question7, largeEnough, question8, moves, leaves, getsOut, notTrapped, question9, question10, placeQuestions, numberQuestions, tableInput, tableQuestions, entryInput, entryQuestions, Accepted}
 use Rattle.definitions.specs.Services.{tableAnswer, table, tableArea, entryAnswer}
 use Rattle.definitions.specs.Fractions.{numerator, value, total}
 use Rattle.definitions.specs.Accuracy.{extended}
 use Rattle.definitions.specs.Matrix.{rowSum, hFrom, ratioBefore, marginSum, exactSize, exactDiagonal, matrix, Inverse}
-use Rattle.definitions.specs.File.{little, recordLength, recordKind, payload, rest, wholeRecord, headReading, headStages, goodHead, goodRow, rowQuestions, fileQuestions, words, rowWords, fileWords, fileAnswer, fileWordArea, fileNumbers, fileNumberArea, fileLength, longestFile}
-use Rattle.definitions.specs.Saving.{littleBytes, recordBytes, headBytes, wordBytes, rowBytes, rowsBytes, sheetFile, saveQuestions, saveAnswer, savedWords, sheetWords, savedNumbers}
-use Rattle.definitions.specs.Moving.{timesPower, exponentInRange, question15, hasRoom, sheetHasRoom, question16, moveInput, moveQuestions, moveAnswer, movedSheet, movedArea}
+use Rattle.definitions.specs.File.{little, recordLength, recordKind, payload, rest, wholeRecord, headLength, oldHeadLength, headReading, headStages, signed, headUnit, knownHead, goodHead, goodRow, rowQuestions, fileQuestions, words, rowWords, fileWords, headOf, fileAnswer, fileWordArea, fileNumbers, fileNumberArea, fileLength, longestFile}
+use Rattle.definitions.specs.Saving.{littleBytes, recordBytes, complement, headBytes, wordBytes, rowBytes, rowsBytes, sheetFile, saveQuestions, saveAnswer, savedWords, sheetWords, savedNumbers}
+use Rattle.definitions.specs.Moving.{timesPower, question15, question17, hasRoom, sheetHasRoom, question16, moveInput, moveQuestions, moveAnswer, movedSheet, movedArea}
 use Rattle.definitions.specs.Column.{columnReading, columnShape, columnInput, columnOf, columnInRange, columnQuestions, stageColumn, columnAnswer, columnArea}
-use Rattle.definitions.specs.Dwell.{text, digits, decimal, hexadecimal, refusedLine, secondsLine, entryLine, rowLines, tableLines, tableText, fileText, dwellText}
+use Rattle.definitions.specs.Dwell.{text, digits, decimal, integer, hexadecimal, refusedLine, secondsLine, entryLine, rowLines, tableLines, tableText, fileText, dwellText}
 use Rattle.definitions.specs.Starred.{outcome, Claim, starred, further}
 use Rattle.definitions.specs.ExactExamples.{sheetH, sheetD, MatrixOfH, Product, ExactTable, ExactTables, RuleOfD}
 use Rattle.definitions.specs.FileExamples.{DwellPrintsP, LongestFile, FileClaim, files, SaveClaim, saves}
@@ -25,5 +25,5 @@ use Rattle.definitions.specs.ColumnExamples.{outcome as outcome·Column,
 use Rattle.definitions.specs.MovingExamples.{outcome as outcome·Move, MoveClaim, moveLines}
 
 unfoldable pub computing : Unit {0}
-unfolding add sub mul div lt le eq neg round ofBits toBits any outWithin finite isZero addInRange mulInRange divInRange addProductInRange sum sumInRange all units list rows stored storedTable pivot pivotInRange multiplier eliminate begun downward p u m↓ m↑ b↓ b↑ solved quotient rowInRange stageInRange sharedBefore shared columnBefore columnUpward column inRange stagesWith rank compact sumWith sumWithInRange hOf kBefore h a kept scaled keptSystem y known joined xAfter ratioInRange scaledInRange backInRange joinInRange everyStep entry marginsInRange size diagonal system idle takesPart allowance liveCount liveSystem liveBegun liveEntry entry·Table everyStepInRange askRow askRows askStages question1 question2 question3 question4 question5 question6 rightSign question7 largeEnough question8 moves leaves getsOut notTrapped question9 question10 placeQuestions numberQuestions tableInput tableQuestions entryInput entryQuestions Accepted tableAnswer table tableArea entryAnswer numerator value total rowSum hFrom ratioBefore marginSum exactSize exactDiagonal matrix Inverse little recordLength recordKind payload rest wholeRecord headReading headStages goodHead goodRow rowQuestions fileQuestions words rowWords fileWords fileAnswer fileWordArea fileNumbers fileNumberArea fileLength longestFile littleBytes recordBytes headBytes wordBytes rowBytes rowsBytes sheetFile saveQuestions saveAnswer savedWords sheetWords savedNumbers text digits decimal hexadecimal refusedLine secondsLine entryLine rowLines tableLines tableText fileText dwellText outcome Claim starred further extended sheetH sheetD MatrixOfH Product ExactTable ExactTables RuleOfD DwellPrintsP LongestFile FileClaim files SaveClaim saves columnReading columnShape columnInput columnOf columnInRange columnQuestions stageColumn columnAnswer columnArea outcome·Column ColumnClaim columns timesPower exponentInRange question15 hasRoom sheetHasRoom question16 moveInput moveQuestions moveAnswer movedSheet movedArea outcome·Move MoveClaim moveLines
+unfolding add sub mul div lt le eq neg round ofBits toBits any outWithin finite isZero addInRange mulInRange divInRange addProductInRange sum sumInRange all units list rows stored storedTable pivot pivotInRange multiplier eliminate begun downward p u m↓ m↑ b↓ b↑ solved quotient rowInRange stageInRange sharedBefore shared columnBefore columnUpward column inRange stagesWith rank compact sumWith sumWithInRange hOf kBefore h a kept scaled keptSystem y known joined xAfter ratioInRange scaledInRange backInRange joinInRange everyStep entry marginsInRange size diagonal system idle takesPart allowance liveCount liveSystem liveBegun liveEntry entry·Table everyStepInRange askRow askRows askStages question1 question2 exponentInRange question12 question3 sizeQuestions shapeQuestions question4 question5 question6 rightSign question7 largeEnough question8 moves leaves getsOut notTrapped question9 question10 placeQuestions numberQuestions tableInput tableQuestions entryInput entryQuestions Accepted tableAnswer table tableArea entryAnswer numerator value total rowSum hFrom ratioBefore marginSum exactSize exactDiagonal matrix Inverse little recordLength recordKind payload rest wholeRecord headLength oldHeadLength headReading headStages signed headUnit knownHead goodHead goodRow rowQuestions fileQuestions words rowWords fileWords headOf fileAnswer fileWordArea fileNumbers fileNumberArea fileLength longestFile littleBytes recordBytes complement headBytes wordBytes rowBytes rowsBytes sheetFile saveQuestions saveAnswer savedWords sheetWords savedNumbers text digits decimal integer hexadecimal refusedLine secondsLine entryLine rowLines tableLines tableText fileText dwellText outcome Claim starred further extended sheetH sheetD MatrixOfH Product ExactTable ExactTables RuleOfD DwellPrintsP LongestFile FileClaim files SaveClaim saves columnReading columnShape columnInput columnOf columnInRange columnQuestions stageColumn columnAnswer columnArea outcome·Column ColumnClaim columns timesPower question15 question17 hasRoom sheetHasRoom question16 moveInput moveQuestions moveAnswer movedSheet movedArea outcome·Move MoveClaim moveLines
 computing = tt

@@ -4,7 +4,7 @@ use native.Mathlib.Nat.{one-le-pow}
 use mathlib.Core.Bool.{Bool, _&&_, cond}
 use mathlib.Core.List.{List}
 use lib.Dec.{T, lit<}
-use lib.IntN.{pos}
+use lib.IntN.{ℤ, pos}
 use lib.ListN.{getD}
 use lib.Ieee.{Float, nan, binary64, fits}
 use Rattle.definitions.specs.Numbers.{finite}
@@ -52,10 +52,10 @@ pub record AccurateColumn (n : ℕ) (on : ℕ → Bool) (E : ℕ) (A : ℕ → �
 unfoldable pub Binary64 : List Float → Type 0
 Binary64 sheet = (i : ℕ) → T (fits binary64 (getD sheet i nan))
 
--- "For every accepted sheet".
+-- "For every accepted sheet", "unchanged in that unit" (document 02, U5).
 unfoldable pub AccuracyRule : Type 0
 AccuracyRule =
-    (reading n : ℕ) (sheet : List Float)
+    (reading n : ℕ) (e : ℤ) (sheet : List Float)
     → Binary64 sheet
-    → Accepted reading n sheet
+    → Accepted reading n e sheet
     → Accurate n (takesPart reading n sheet) (allowance reading n) (matrix reading n sheet) (entry reading n sheet)

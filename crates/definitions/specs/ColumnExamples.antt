@@ -2,6 +2,7 @@
 use Prim.Native.Nat.{ℕ, _-_, _^_}
 use mathlib.Core.List.{List, [], _∷_, map}
 use mathlib.Core.Path.{_≡_}
+use lib.IntN.{ℤ, pos, negsuc}
 use lib.ListN.{length}
 use lib.Ieee.{Float, nan}
 use Rattle.definitions.specs.Services.{Answer, given, refused}
@@ -16,6 +17,7 @@ pub record Outcome : Type 0 where
 pub record Line : Type 0 where
   pub reading : ℕ
   pub n : ℕ
+  pub e : ℤ
   pub sheet : List Float
   pub stage : ℕ
   pub area : List Float
@@ -24,8 +26,8 @@ pub record Line : Type 0 where
 unfoldable pub outcome : Line → Outcome
 outcome line =
     record {
-      answers = columnAnswer (line .reading) (line .n) (line .sheet) (length (line .area)) (line .stage);
-      area = columnArea (line .reading) (line .n) (line .sheet) (line .stage) (line .area);
+      answers = columnAnswer (line .reading) (line .n) (line .e) (line .sheet) (length (line .area)) (line .stage);
+      area = columnArea (line .reading) (line .n) (line .e) (line .sheet) (line .stage) (line .area);
     }
 
 unfoldable pub ColumnClaim : List Line → Type 0
@@ -40,7 +42,11 @@ refuses number row column area = record { answers = refused number row column; a
 
 abbrev line : ℕ → ℕ → List Float → ℕ → List Float → Outcome → Line
 line reading n sheet stage area expected =
-    record { reading = reading; n = n; sheet = sheet; stage = stage; area = area; expected = expected }
+    record { reading = reading; n = n; e = pos 0; sheet = sheet; stage = stage; area = area; expected = expected }
+
+abbrev inUnit : ℤ → Line → Line
+inUnit e line =
+    record { reading = line .reading; n = line .n; e = e; sheet = line .sheet; stage = line .stage; area = line .area; expected = line .expected }
 
 -- Places before the call.
 abbrev three : List Float
@@ -81,9 +87,12 @@ columns =
     ∷ line 1 2 (num 0 ∷ num 0 ∷ num 0 ∷ num (2 ^ 1022) ∷ []) 1 three (gives 32 (num 0 ∷ num 0 ∷ num 9 ∷ []))
     ∷ line 1 2 (num 0 ∷ num 0 ∷ num 0 ∷ num (2 ^ 1022) ∷ []) 2 three (refuses 10 0 0 three)
     ∷ line 1 3 (num 0 ∷ num 0 ∷ num 0 ∷ num 0 ∷ most ∷ minus most ∷ num 0 ∷ num 0 ∷ num 1 ∷ []) 1 three (refuses 10 0 0 three)
+    -- the same numbers in every unit
+    ∷ inUnit (negsuc 511) (line 1 2 P 2 three (gives 32 (num 1 ∷ num 2 ∷ num 9 ∷ [])))
     -- the questions before it, in order
     ∷ line 2 0 [] 0 [] (refuses 1 0 0 [])
-    ∷ line 1 33 [] 0 [] (refuses 2 0 0 [])
+    ∷ inUnit (pos 513) (line 1 33 [] 0 [] (refuses 2 0 0 []))
+    ∷ inUnit (pos 513) (line 1 2 (nan ∷ []) 0 one (refuses 12 0 0 one))
     ∷ line 1 2 (nan ∷ []) 0 one (refuses 3 0 0 one)
     ∷ line 1 2 (nan ∷ nan ∷ nan ∷ nan ∷ []) 0 one (refuses 4 0 0 one)
     ∷ line 1 2 (nan ∷ nan ∷ nan ∷ nan ∷ []) 0 three (refuses 5 0 0 three)

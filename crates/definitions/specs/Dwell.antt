@@ -5,6 +5,7 @@ use Prim.Native.String.{String}
 use mathlib.Core.Bool.{cond}
 use mathlib.Core.List.{List, [], _∷_, _++_}
 use lib.Dec.{ltb}
+use lib.IntN.{ℤ, pos, negsuc}
 use lib.ListN.{take}
 use lib.Ieee.{Float, binary64, toBits}
 use Rattle.definitions.specs.Table.{entry}
@@ -24,6 +25,11 @@ digits (suc more) a = let front = digits more (a / 10) in cond (ltb a 10) [] fro
 unfoldable pub decimal : ℕ → List ℕ
 decimal a = digits 20 a
 
+-- A signed number, "with a minus sign where it is negative".
+unfoldable pub integer : ℤ → List ℕ
+integer (pos m) = decimal m
+integer (negsuc m) = text "-" ++ decimal (suc m)
+
 -- m lowercase hexadecimal digits.
 unfoldable pub hexadecimal : ℕ → ℕ → List ℕ
 hexadecimal zero a = []
@@ -34,8 +40,9 @@ unfoldable pub refusedLine : ℕ → ℕ → ℕ → List ℕ
 refusedLine number row column =
     text "refused " ++ decimal number ++ text " " ++ decimal row ++ text " " ++ decimal column ++ text "\n"
 
-unfoldable pub secondsLine : ℕ → ℕ → List ℕ
-secondsLine n allowed = text "seconds " ++ decimal n ++ text " " ++ decimal allowed ++ text "\n"
+-- "The first line printed gains e after the allowance" (document 02, U5).
+unfoldable pub secondsLine : ℕ → ℕ → ℤ → List ℕ
+secondsLine n allowed e = text "seconds " ++ decimal n ++ text " " ++ decimal allowed ++ text " " ++ integer e ++ text "\n"
 
 -- "One line an entry, row by row: row, column, the 64 bits as 16 lowercase hexadecimal digits."
 unfoldable pub entryLine : ℕ → ℕ → Float → List ℕ
@@ -51,13 +58,14 @@ tableLines x n zero = []
 tableLines x n (suc m) = tableLines x n m ++ rowLines x m n
 
 -- On success the table of the sheet, on refusal its line.
-unfoldable pub tableText : ℕ → ℕ → List Float → Answer ℕ → List ℕ
-tableText reading n sheet (given allowed) = secondsLine n allowed ++ tableLines (entry reading n sheet) n n
-tableText reading n sheet (refused number row column) = refusedLine number row column
+unfoldable pub tableText : ℕ → ℕ → ℤ → List Float → Answer ℕ → List ℕ
+tableText reading n e sheet (given allowed) = secondsLine n allowed e ++ tableLines (entry reading n sheet) n n
+tableText reading n e sheet (refused number row column) = refusedLine number row column
 
 unfoldable pub fileText : List ℕ → Answer Head → List ℕ
 fileText bytes (given head) =
-    tableText (head .reading) (head .n) (fileNumbers bytes) (tableAnswer (head .reading) (head .n) (fileNumbers bytes) 1024)
+    tableText (head .reading) (head .n) (head .e) (fileNumbers bytes)
+    (tableAnswer (head .reading) (head .n) (head .e) (fileNumbers bytes) 1024)
 fileText bytes (refused number row column) = refusedLine number row column
 
 -- "It takes at most one byte more than the longest file and judges only those bytes." Its own areas hold 1,024 numbers.

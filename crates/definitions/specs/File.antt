@@ -1,11 +1,13 @@
--- The sheet file and its reading (document 01, "The sheet file" and the file questions 11 to 14). A file is a list of bytes.
-use Prim.Native.Nat.{ℕ, zero, suc, _+_, _*_}
-use mathlib.Core.Bool.{Bool, _&&_, _||_}
+-- The sheet file and its reading (document 01, "The sheet file" and the file questions 11 to 14; document 02, U5). A file is a list
+-- of bytes.
+use Prim.Native.Nat.{ℕ, zero, suc, _+_, _-_, _*_}
+use mathlib.Core.Bool.{Bool, _&&_, _||_, cond}
 use mathlib.Core.List.{List, [], _∷_, _++_, map}
-use lib.Dec.{leb, eqb}
+use lib.Dec.{leb, ltb, eqb}
+use lib.IntN.{ℤ, pos, negsuc}
 use lib.ListN.{length, take, drop}
 use lib.Ieee.{Float, binary64, ofBits}
-use Rattle.definitions.specs.Questions.{Asked, ask, _then_, question1, question2, question4}
+use Rattle.definitions.specs.Questions.{Asked, ask, _then_, exponentInRange, question1, question2, question4}
 use Rattle.definitions.specs.Services.{Answer, answer, filled}
 
 -- "All little-endian": the number in the first w bytes.
@@ -31,6 +33,13 @@ rest bytes = drop (6 + recordLength bytes) bytes
 unfoldable pub wholeRecord : List ℕ → Bool
 wholeRecord bytes = leb 6 (length bytes) && leb (6 + recordLength bytes) (length bytes)
 
+-- "The head's payload becomes 6 bytes … A 4-byte head is still read."
+unfoldable pub headLength : ℕ
+headLength = 6
+
+unfoldable pub oldHeadLength : ℕ
+oldHeadLength = 4
+
 -- "Kind 1, head: 2-byte reading, 2-byte n."
 unfoldable pub headReading : List ℕ → ℕ
 headReading bytes = little 2 (payload bytes)
@@ -38,14 +47,25 @@ headReading bytes = little 2 (payload bytes)
 unfoldable pub headStages : List ℕ → ℕ
 headStages bytes = little 2 (drop 2 (payload bytes))
 
--- 12: "Head: kind 1, length 4, reading 1 or 2, n from 1 to 32?"
+-- "After n comes a signed 2-byte e", in two's complement; "a 4-byte head is still read, with e = 0".
+unfoldable pub signed : ℕ → ℤ
+signed word = cond (ltb word 32768) (pos word) (negsuc (65535 - word))
+
+unfoldable pub headUnit : List ℕ → ℤ
+headUnit bytes = cond (eqb (recordLength bytes) oldHeadLength) (pos 0) (signed (little 2 (drop 4 (payload bytes))))
+
+unfoldable pub knownHead : List ℕ → Bool
+knownHead bytes = eqb (recordLength bytes) oldHeadLength || eqb (recordLength bytes) headLength
+
+-- 12: "Head: kind 1, length 4", or 6, "reading 1 or 2, n from 1 to 32?" "Head length 4 or 6 and e in its range belong to 12."
 unfoldable pub goodHead : List ℕ → Bool
 goodHead bytes =
     eqb (recordKind bytes) 1
-    && eqb (recordLength bytes) 4
+    && knownHead bytes
     && (eqb (headReading bytes) 1 || eqb (headReading bytes) 2)
     && leb 1 (headStages bytes)
     && leb (headStages bytes) 32
+    && exponentInRange (headUnit bytes)
 
 -- 13: "Row: kind 2, length 2 + 8n, and the row number due?"
 unfoldable pub goodRow : ℕ → ℕ → List ℕ → Bool
@@ -79,13 +99,17 @@ rowWords n (suc m) bytes = words n (drop 2 (payload bytes)) ++ rowWords n m (res
 unfoldable pub fileWords : List ℕ → List ℕ
 fileWords bytes = rowWords (headStages bytes) (headStages bytes) (rest bytes)
 
--- "The call hands over n and the reading."
+-- "The call hands over n and the reading"; "the sheet as loaded carries e".
 pub record Head : Type 0 where
   pub reading : ℕ
   pub n : ℕ
+  pub e : ℤ
+
+unfoldable pub headOf : List ℕ → Head
+headOf bytes = record { reading = headReading bytes; n = headStages bytes; e = headUnit bytes }
 
 unfoldable pub fileAnswer : List ℕ → ℕ → Answer Head
-fileAnswer bytes room = answer (fileQuestions bytes room) (record { reading = headReading bytes; n = headStages bytes })
+fileAnswer bytes room = answer (fileQuestions bytes room) (headOf bytes)
 
 -- "Numbers are copied bit for bit, places past n × n keep theirs": on an area of 64-bit words, and on an area of numbers.
 unfoldable pub fileWordArea : List ℕ → List ℕ → List ℕ
@@ -97,9 +121,9 @@ fileNumbers bytes = map (λ word. ofBits binary64 word) (fileWords bytes)
 unfoldable pub fileNumberArea : List ℕ → List Float → List Float
 fileNumberArea bytes area = let new = fileNumbers bytes in filled (fileQuestions bytes (length area)) new area
 
--- The length of the file of n stages; "the longest file is 8,458 bytes".
+-- The length of the file of n stages that is written; "the longest file is 8,460 bytes".
 unfoldable pub fileLength : ℕ → ℕ
-fileLength n = 6 + 4 + n * (6 + 2 + 8 * n)
+fileLength n = 6 + headLength + n * (6 + 2 + 8 * n)
 
 unfoldable pub longestFile : ℕ
 longestFile = fileLength 32

@@ -1,30 +1,30 @@
--- Moving a sheet to another time unit (document 02, U4): every number times 2^k, and what the call is asked, answers and leaves in
--- the second lent area.
+-- Moving a sheet to another time unit (document 02, U4 and U5): every number times 2^k, and what the call is asked, answers and
+-- leaves in the second lent area.
 use Prim.Native.Nat.{ℕ, zero, suc, _*_}
 use mathlib.Core.Bool.{Bool, _&&_}
 use mathlib.Core.List.{List, map}
-use lib.IntN.{ℤ, pos, negsuc, _+ℤ_}
-use lib.Signed.{leZ}
+use lib.IntN.{ℤ, _+ℤ_}
 use lib.ListN.{length, getD}
 use lib.Ieee.{Float, nan, inf, fin, le, neg}
 use Rattle.definitions.specs.Numbers.{largest, all}
-use Rattle.definitions.specs.Questions.{Asked, _then_, ask, question1, question2, question3, question4, largeEnough, placeQuestions}
+use Rattle.definitions.specs.Questions.{Asked, _then_, ask, exponentInRange, shapeQuestions, question4, largeEnough, placeQuestions}
 use Rattle.definitions.specs.Services.{Answer, answer, filled}
 
--- "Multiply every number of a sheet by 2^k … each result is exact, a zero keeps its sign": m·2^e times 2^k is m·2^(e + k), of the
+-- "Multiply every number of a sheet by 2^k … each result is exact, a zero keeps its sign": m·2^q times 2^k is m·2^(q + k), of the
 -- same sign, whether or not binary64 holds it.
 unfoldable pub timesPower : ℤ → Float → Float
 timesPower k nan = nan
 timesPower k (inf sign) = inf sign
-timesPower k (fin sign zero e) = fin sign zero e
-timesPower k (fin sign (suc m) e) = fin sign (suc m) (e +ℤ k)
+timesPower k (fin sign zero q) = fin sign zero q
+timesPower k (fin sign (suc m) q) = fin sign (suc m) (q +ℤ k)
 
 -- 15: "for a whole number k from −512 to 512".
-unfoldable pub exponentInRange : ℤ → Bool
-exponentInRange k = leZ (negsuc 511) k && leZ k (pos 512)
-
 unfoldable pub question15 : ℤ → Asked
 question15 k = ask (exponentInRange k) 15 0 0
+
+-- 17: "e + k outside its range", for "moving by k makes it e + k" (document 02, U5).
+unfoldable pub question17 : ℤ → ℤ → Asked
+question17 e k = ask (exponentInRange (e +ℤ k)) 17 0 0
 
 -- 16: "a nonzero result whose size is above the largest finite number or below 2^-1022", asked of the exact product of every number.
 unfoldable pub hasRoom : Float → Bool
@@ -36,23 +36,22 @@ sheetHasRoom k sheet = all (λ at. hasRoom (timesPower k (getD sheet at nan))) 0
 unfoldable pub question16 : ℤ → List Float → Asked
 question16 k sheet = ask (sheetHasRoom k sheet) 16 0 0
 
--- "Questions 1 to 4, 6, 7 and 8 first", then 15 and 16; `room` is the length of the second area.
-unfoldable pub moveInput : ℕ → ℕ → List Float → ℕ → Asked
-moveInput reading n sheet room =
-    question1 reading then question2 n then question3 n (length sheet) then question4 (n * n) room then placeQuestions reading n sheet
+-- "Questions 1 to 4, 6, 7 and 8 first", then 15, 17 and 16; `room` is the length of the second area.
+unfoldable pub moveInput : ℕ → ℕ → ℤ → List Float → ℕ → Asked
+moveInput reading n e sheet room = shapeQuestions reading n e (length sheet) then question4 (n * n) room then placeQuestions reading n sheet
 
-unfoldable pub moveQuestions : ℕ → ℕ → List Float → ℤ → ℕ → Asked
-moveQuestions reading n sheet k room = moveInput reading n sheet room then question15 k then question16 k sheet
+unfoldable pub moveQuestions : ℕ → ℕ → ℤ → List Float → ℤ → ℕ → Asked
+moveQuestions reading n e sheet k room = moveInput reading n e sheet room then question15 k then question17 e k then question16 k sheet
 
--- The call hands over nothing beside the moved sheet.
-unfoldable pub moveAnswer : ℕ → ℕ → List Float → ℤ → ℕ → Answer (Unit {0})
-moveAnswer reading n sheet k room = answer (moveQuestions reading n sheet k room) tt
+-- The call hands over the moved sheet's e.
+unfoldable pub moveAnswer : ℕ → ℕ → ℤ → List Float → ℤ → ℕ → Answer ℤ
+moveAnswer reading n e sheet k room = answer (moveQuestions reading n e sheet k room) (e +ℤ k)
 
 -- "In a second lent area … places past the sheet's count keep their numbers."
 unfoldable pub movedSheet : ℤ → List Float → List Float
 movedSheet k sheet = map (λ number. timesPower k number) sheet
 
-unfoldable pub movedArea : ℕ → ℕ → List Float → ℤ → List Float → List Float
-movedArea reading n sheet k area =
+unfoldable pub movedArea : ℕ → ℕ → ℤ → List Float → ℤ → List Float → List Float
+movedArea reading n e sheet k area =
     let new = movedSheet k sheet in
-    filled (moveQuestions reading n sheet k (length area)) new area
+    filled (moveQuestions reading n e sheet k (length area)) new area

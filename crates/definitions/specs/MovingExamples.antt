@@ -1,4 +1,4 @@
--- Sheets to move (document 02, U4): calls with what they answer and leave, and one claim about all of them.
+-- Sheets to move (document 02, U4 and U5): calls with what they answer and leave, and one claim about all of them.
 use Prim.Native.Nat.{ℕ, _-_, _*_, _^_}
 use mathlib.Core.List.{List, [], _∷_, map}
 use mathlib.Core.Path.{_≡_}
@@ -12,12 +12,13 @@ use Rattle.definitions.specs.ColumnExamples.{one, P, most}
 
 -- A call: the sheet, k, the second area before it; and what it answers, with that area after it.
 pub record Outcome : Type 0 where
-  pub answers : Answer (Unit {0})
+  pub answers : Answer ℤ
   pub area : List Float
 
 pub record Line : Type 0 where
   pub reading : ℕ
   pub n : ℕ
+  pub e : ℤ
   pub sheet : List Float
   pub k : ℤ
   pub area : List Float
@@ -26,22 +27,25 @@ pub record Line : Type 0 where
 unfoldable pub outcome : Line → Outcome
 outcome line =
     record {
-      answers = moveAnswer (line .reading) (line .n) (line .sheet) (line .k) (length (line .area));
-      area = movedArea (line .reading) (line .n) (line .sheet) (line .k) (line .area);
+      answers = moveAnswer (line .reading) (line .n) (line .e) (line .sheet) (line .k) (length (line .area));
+      area = movedArea (line .reading) (line .n) (line .e) (line .sheet) (line .k) (line .area);
     }
 
 unfoldable pub MoveClaim : List Line → Type 0
 MoveClaim lines = map outcome lines ≡ map (λ line. line .expected) lines
 
--- An accepted call and what it fills the area with, and a refused one, which leaves it.
-abbrev gives : List Float → Outcome
-gives after = record { answers = given tt; area = after }
+-- An accepted call, the unit that it hands over and what it fills the area with, and a refused one, which leaves it.
+abbrev gives : ℤ → List Float → Outcome
+gives e after = record { answers = given e; area = after }
 
 abbrev refuses : ℕ → ℕ → ℕ → List Float → Outcome
 refuses number row column area = record { answers = refused number row column; area = area }
 
 abbrev line : ℕ → ℕ → List Float → ℤ → List Float → Outcome → Line
-line reading n sheet k area expected = record { reading = reading; n = n; sheet = sheet; k = k; area = area; expected = expected }
+line reading n sheet k area expected = record { reading = reading; n = n; e = pos 0; sheet = sheet; k = k; area = area; expected = expected }
+
+abbrev inUnit : ℤ → Line → Line
+inUnit e line = record { reading = line .reading; n = line .n; e = e; sheet = line .sheet; k = line .k; area = line .area; expected = line .expected }
 
 -- One stage, with an area of one place.
 abbrev single : ℕ → Float → ℤ → Outcome → Line
@@ -56,13 +60,13 @@ H = num 3 ∷ minus (num 1) ∷ minus (num 4) ∷ num 1 ∷ []
 
 unfoldable pub moveLines : List Line
 moveLines =
-    line 1 2 P (pos 10) five (gives (num 1024 ∷ minus (num 1024) ∷ minus (num 1024) ∷ num 0 ∷ num 9 ∷ []))
-    ∷ line 2 2 H (negsuc 0) five (gives (quo 3 2 ∷ minus (quo 1 2) ∷ minus (num 2) ∷ quo 1 2 ∷ num 9 ∷ []))
+    line 1 2 P (pos 10) five (gives (pos 10) (num 1024 ∷ minus (num 1024) ∷ minus (num 1024) ∷ num 0 ∷ num 9 ∷ []))
+    ∷ line 2 2 H (negsuc 0) five (gives (negsuc 0) (quo 3 2 ∷ minus (quo 1 2) ∷ minus (num 2) ∷ quo 1 2 ∷ num 9 ∷ []))
     -- a zero keeps its sign
-    ∷ line 1 2 (minus (num 0) ∷ num 0 ∷ minus (num 0) ∷ num 1 ∷ []) (pos 3) five (gives (minus (num 0) ∷ num 0 ∷ minus (num 0) ∷ num 8 ∷ num 9 ∷ []))
+    ∷ line 1 2 (minus (num 0) ∷ num 0 ∷ minus (num 0) ∷ num 1 ∷ []) (pos 3) five (gives (pos 3) (minus (num 0) ∷ num 0 ∷ minus (num 0) ∷ num 8 ∷ num 9 ∷ []))
     -- the range of k, both ends
-    ∷ single 1 (quo 1 (2 ^ 510)) (negsuc 511) (gives (quo 1 (2 ^ 1022) ∷ []))
-    ∷ single 1 (num (2 ^ 511)) (pos 512) (gives (num (2 ^ 1023) ∷ []))
+    ∷ single 1 (quo 1 (2 ^ 510)) (negsuc 511) (gives (negsuc 511) (quo 1 (2 ^ 1022) ∷ []))
+    ∷ single 1 (num (2 ^ 511)) (pos 512) (gives (pos 512) (num (2 ^ 1023) ∷ []))
     ∷ single 1 (num 1) (pos 513) (refuses 15 0 0 one)
     ∷ single 1 (num 1) (negsuc 512) (refuses 15 0 0 one)
     ∷ single 1 (num 1) (negsuc (2 ^ 63 - 1)) (refuses 15 0 0 one)
@@ -70,13 +74,20 @@ moveLines =
     ∷ single 1 (quo 1 (2 ^ 511)) (negsuc 511) (refuses 16 0 0 one)
     ∷ single 1 (quo (2 ^ 53 - 1) (2 ^ 563)) (negsuc 511) (refuses 16 0 0 one)
     ∷ single 1 (num (2 ^ 512)) (pos 512) (refuses 16 0 0 one)
-    ∷ single 1 (num ((2 ^ 53 - 1) * 2 ^ 459)) (pos 512) (gives (most ∷ []))
+    ∷ single 1 (num ((2 ^ 53 - 1) * 2 ^ 459)) (pos 512) (gives (pos 512) (most ∷ []))
     ∷ single 1 most (pos 1) (refuses 16 0 0 one)
     ∷ line 1 2 (num 1 ∷ minus most ∷ num 0 ∷ num 1 ∷ []) (pos 1) five (refuses 16 0 0 five)
     ∷ line 1 2 (num 1 ∷ num 0 ∷ minus (quo 1 (2 ^ 1022)) ∷ num 1 ∷ []) (negsuc 0) five (refuses 16 0 0 five)
+    -- the moved sheet's unit, both ends; 17 before 16 and after 15
+    ∷ inUnit (negsuc 9) (single 1 (num 1) (pos 10) (gives (pos 0) (num 1024 ∷ [])))
+    ∷ inUnit (pos 500) (single 1 (num 1) (pos 12) (gives (pos 512) (num 4096 ∷ [])))
+    ∷ inUnit (pos 500) (single 1 (num 1) (pos 13) (refuses 17 0 0 one))
+    ∷ inUnit (negsuc 510) (single 1 (num 1) (negsuc 0) (gives (negsuc 511) (quo 1 2 ∷ [])))
+    ∷ inUnit (negsuc 511) (single 1 (quo 1 (2 ^ 1022)) (negsuc 0) (refuses 17 0 0 one))
+    ∷ inUnit (pos 512) (single 1 (num 1) (pos 513) (refuses 15 0 0 one))
     -- 9 and 10 are not asked
-    ∷ line 1 2 (num 0 ∷ minus (num 1) ∷ minus (num 1) ∷ num 0 ∷ []) (pos 1) five (gives (num 0 ∷ minus (num 2) ∷ minus (num 2) ∷ num 0 ∷ num 9 ∷ []))
-    ∷ single 1 (num (2 ^ 1022)) (pos 1) (gives (num (2 ^ 1023) ∷ []))
+    ∷ line 1 2 (num 0 ∷ minus (num 1) ∷ minus (num 1) ∷ num 0 ∷ []) (pos 1) five (gives (pos 1) (num 0 ∷ minus (num 2) ∷ minus (num 2) ∷ num 0 ∷ num 9 ∷ []))
+    ∷ single 1 (num (2 ^ 1022)) (pos 1) (gives (pos 1) (num (2 ^ 1023) ∷ []))
     -- the questions before them, in order
     ∷ single 1 (num (2 ^ 600)) (pos 600) (refuses 15 0 0 one)
     ∷ single 1 (quo 1 (2 ^ 1074)) (pos 600) (refuses 8 1 1 one)
@@ -85,6 +96,7 @@ moveLines =
     ∷ line 1 2 (num 1 ∷ num 1 ∷ nan ∷ num 1 ∷ []) (pos 600) five (refuses 6 2 1 five)
     ∷ line 1 2 (nan ∷ nan ∷ nan ∷ nan ∷ []) (pos 600) one (refuses 4 0 0 one)
     ∷ line 1 2 (nan ∷ []) (pos 600) one (refuses 3 0 0 one)
-    ∷ line 1 33 [] (pos 600) [] (refuses 2 0 0 [])
+    ∷ inUnit (negsuc 512) (line 1 2 (nan ∷ []) (pos 600) one (refuses 12 0 0 one))
+    ∷ inUnit (negsuc 512) (line 1 33 [] (pos 600) [] (refuses 2 0 0 []))
     ∷ line 3 0 [] (pos 600) [] (refuses 1 0 0 [])
     ∷ []

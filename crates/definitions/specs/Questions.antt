@@ -1,9 +1,11 @@
--- The refusal and questions 1 to 10, in order (document 01, "The questions, in order").
+-- The refusal and questions 1 to 10, in order (document 01, "The questions, in order"), and 12 of a sheet's unit.
 use Prim.Native.Nat.{ℕ, zero, suc, _*_}
 use mathlib.Core.Bool.{Bool, true, false, not, _&&_, _||_, cond}
 use mathlib.Core.List.{List}
 use mathlib.Core.Path.{_≡_}
 use lib.Dec.{leb, eqb}
+use lib.IntN.{ℤ, pos, negsuc}
+use lib.Signed.{leZ}
 use lib.ListN.{length}
 use lib.Ieee.{Float, lt, le, neg}
 use Rattle.exact.specs.Chains.{outWithin}
@@ -48,9 +50,23 @@ question1 reading = ask (eqb reading 1 || eqb reading 2) 1 0 0
 unfoldable pub question2 : ℕ → Asked
 question2 n = ask (leb 1 n && leb n 32) 2 0 0
 
+-- 12, of a sheet that is handed over: its unit is 2^e seconds, e "from −512 to 512" (document 02, U5).
+unfoldable pub exponentInRange : ℤ → Bool
+exponentInRange e = leZ (negsuc 511) e && leZ e (pos 512)
+
+unfoldable pub question12 : ℤ → Asked
+question12 e = ask (exponentInRange e) 12 0 0
+
 -- 3: "Does the lent sheet hold exactly n × n numbers?"
 unfoldable pub question3 : ℕ → ℕ → Asked
 question3 n held = ask (eqb held (n * n)) 3 0 0
+
+-- 1, 2, 12 and 3, of every sheet that is handed over ("e outside its range is 12, asked after 2"); `held` is the count of its numbers.
+unfoldable pub sizeQuestions : ℕ → ℤ → ℕ → Asked
+sizeQuestions n e held = question2 n then question12 e then question3 n held
+
+unfoldable pub shapeQuestions : ℕ → ℕ → ℤ → ℕ → Asked
+shapeQuestions reading n e held = question1 reading then sizeQuestions n e held
 
 -- 4: "Does the lent area for numbers hold at least n × n?" Each call says how many places it needs.
 unfoldable pub question4 : ℕ → ℕ → Asked
@@ -110,23 +126,21 @@ placeQuestions reading n sheet = question6 n sheet then question7 reading n shee
 unfoldable pub numberQuestions : ℕ → ℕ → List Float → Asked
 numberQuestions reading n sheet = placeQuestions reading n sheet then question9 reading n sheet
 
--- The whole table is asked 1, 2, 3, 4, 6, 7, 8, 9 and 10; `room` is the length of the answer area.
-unfoldable pub tableInput : ℕ → ℕ → List Float → ℕ → Asked
-tableInput reading n sheet room =
-    question1 reading then question2 n then question3 n (length sheet) then question4 (n * n) room then numberQuestions reading n sheet
+-- The whole table is asked 1, 2, 12, 3, 4, 6, 7, 8, 9 and 10; `room` is the length of the answer area.
+unfoldable pub tableInput : ℕ → ℕ → ℤ → List Float → ℕ → Asked
+tableInput reading n e sheet room = shapeQuestions reading n e (length sheet) then question4 (n * n) room then numberQuestions reading n sheet
 
-unfoldable pub tableQuestions : ℕ → ℕ → List Float → ℕ → Asked
-tableQuestions reading n sheet room = tableInput reading n sheet room then question10 reading n sheet
+unfoldable pub tableQuestions : ℕ → ℕ → ℤ → List Float → ℕ → Asked
+tableQuestions reading n e sheet room = tableInput reading n e sheet room then question10 reading n sheet
 
--- One entry is asked 1, 2, 3, 5, 6, 7, 8, 9 and 10.
-unfoldable pub entryInput : ℕ → ℕ → List Float → ℕ → ℕ → Asked
-entryInput reading n sheet i j =
-    question1 reading then question2 n then question3 n (length sheet) then question5 n i j then numberQuestions reading n sheet
+-- One entry is asked 1, 2, 12, 3, 5, 6, 7, 8, 9 and 10.
+unfoldable pub entryInput : ℕ → ℕ → ℤ → List Float → ℕ → ℕ → Asked
+entryInput reading n e sheet i j = shapeQuestions reading n e (length sheet) then question5 n i j then numberQuestions reading n sheet
 
-unfoldable pub entryQuestions : ℕ → ℕ → List Float → ℕ → ℕ → Asked
-entryQuestions reading n sheet i j = entryInput reading n sheet i j then question10 reading n sheet
+unfoldable pub entryQuestions : ℕ → ℕ → ℤ → List Float → ℕ → ℕ → Asked
+entryQuestions reading n e sheet i j = entryInput reading n e sheet i j then question10 reading n sheet
 
 -- "A sheet is accepted where every question below that concerns its call is answered yes; where no call is named, the call is
 -- that for the whole table, lent room enough."
-unfoldable pub Accepted : ℕ → ℕ → List Float → Type 0
-Accepted reading n sheet = tableQuestions reading n sheet (n * n) ≡ pass
+unfoldable pub Accepted : ℕ → ℕ → ℤ → List Float → Type 0
+Accepted reading n e sheet = tableQuestions reading n e sheet (n * n) ≡ pass

@@ -3,6 +3,7 @@ use Prim.Native.Nat.{ℕ, _+_, _-_, _*_, _^_}
 use mathlib.Core.Bool.{false}
 use mathlib.Core.List.{List, [], _∷_, map}
 use mathlib.Core.Path.{_≡_}
+use lib.IntN.{ℤ, pos, negsuc}
 use lib.Ieee.{Float, nan, binary64, round, neg, ofBits}
 use Rattle.definitions.specs.Sheet.{allowance}
 use Rattle.definitions.specs.Questions.{tableQuestions}
@@ -16,13 +17,14 @@ pub record Table : Type 0 where
 pub record Line : Type 0 where
   pub reading : ℕ
   pub n : ℕ
+  pub e : ℤ
   pub sheet : List Float
   pub expected : Answer Table
 
 unfoldable pub outcome : Line → Answer Table
 outcome line =
     let numbers = table (line .reading) (line .n) (line .sheet) in
-    answer (tableQuestions (line .reading) (line .n) (line .sheet) (line .n * line .n))
+    answer (tableQuestions (line .reading) (line .n) (line .e) (line .sheet) (line .n * line .n))
     (record { allowed = allowance (line .reading) (line .n); numbers = numbers })
 
 unfoldable pub Claim : List Line → Type 0
@@ -41,8 +43,12 @@ minus x = neg x
 abbrev pub word : ℕ → Float
 word bits = ofBits binary64 bits
 
+-- A sheet in seconds, and one in another unit.
 abbrev pub line : ℕ → ℕ → List Float → Answer Table → Line
-line reading n sheet expected = record { reading = reading; n = n; sheet = sheet; expected = expected }
+line reading n sheet expected = record { reading = reading; n = n; e = pos 0; sheet = sheet; expected = expected }
+
+abbrev pub inUnit : ℤ → Line → Line
+inUnit e line = record { reading = line .reading; n = line .n; e = e; sheet = line .sheet; expected = line .expected }
 
 abbrev pub gives : ℕ → List Float → Answer Table
 gives allowed numbers = given (record { allowed = allowed; numbers = numbers })
@@ -74,6 +80,12 @@ further =
     -- each question is asked of the whole sheet before the next: 6 before 7, 7 before 9
     line 1 2 (num 5 ∷ num 1 ∷ nan ∷ num 1 ∷ []) (refused 6 2 1)
     ∷ line 1 2 (num 0 ∷ num 1 ∷ num 0 ∷ num 0 ∷ []) (refused 7 1 2)
+    -- the same numbers in every unit; 12 after 2 and before 3
+    ∷ inUnit (pos 512) (line 1 1 (num 2 ∷ []) (gives 4 (quo 1 2 ∷ [])))
+    ∷ inUnit (negsuc 511) (line 2 1 (num 2 ∷ []) (gives 12 (quo 1 2 ∷ [])))
+    ∷ inUnit (pos 513) (line 1 33 [] (refused 2 0 0))
+    ∷ inUnit (pos 513) (line 1 2 (nan ∷ []) (refused 12 0 0))
+    ∷ inUnit (negsuc 512) (line 2 1 (num 2 ∷ []) (refused 12 0 0))
     -- zeros of either sign; the smallest sizes
     ∷ line 1 2 (num 1 ∷ minus (num 0) ∷ num 0 ∷ num 1 ∷ []) (gives 32 (num 1 ∷ num 0 ∷ num 0 ∷ num 1 ∷ []))
     ∷ line 2 1 (minus (num 0) ∷ []) (refused 7 1 1)

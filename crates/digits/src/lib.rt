@@ -1,8 +1,8 @@
-// Decimal numbers, written into a lent buffer as `buffer` writes.
+// Decimal numbers, with and without a sign, written into a lent buffer as `buffer` writes.
 ghost use mathlib.Core.Path.{_≡_};
 ghost use mathlib.Core.List.{[], _∷_, _++_};
 ghost use lib.ListN.{length};
-ghost use Rattle.definitions.specs.Dwell.{decimal};
+ghost use Rattle.definitions.specs.Dwell.{decimal, integer};
 ghost use Rattle.buffer.specs.Pasted.{Room, Written};
 
 // How many decimal digits a number has.
@@ -42,4 +42,17 @@ pub fn put_field(value: usize, end: u8, at: usize, out: &mut [u8]) -> usize
 {
     let next = put_decimal(value, at, out);
     buffer::put_byte(end, next, out)
+}
+
+// The same for a signed number, with a minus sign where it is negative.
+pub fn put_integer(value: i64, end: u8, at: usize, out: &mut [u8]) -> usize
+    requires { ⌜ Room (integer value ++ (end ∷ [])) at (now out) ⌝ }
+    ensures { λ r. ⌜ Written (integer value ++ (end ∷ [])) at (now (out .entry)) (now (out .exit)) r ⌝ }
+{
+    if value < 0 {
+        let size = (-1 - value) as usize + 1;
+        let next = buffer::put_byte(b'-', at, out);
+        return put_field(size, end, next, out);
+    }
+    put_field(value as usize, end, at, out)
 }

@@ -2,9 +2,10 @@
 use Prim.Native.Nat.{ℕ, _*_, _≤_}
 use mathlib.Core.List.{List}
 use mathlib.Core.Path.{_≡_, refl, sym, ap, _∙_}
+use lib.IntN.{ℤ}
 use Rattle.definitions.specs.Questions.{Asked, pass, refuse}
 use Rattle.definitions.specs.Services.{answer, given, refused, filled}
-use Rattle.definitions.specs.File.{Head, headReading, headStages, fileQuestions, fileAnswer}
+use Rattle.definitions.specs.File.{Head, fileQuestions, headOf, fileAnswer}
 use Rattle.steps.proofs.QuestionLaws.{given-passes, given-is}
 use Rattle.answers.specs.declared.Loaded.{Loaded}
 use Rattle.answers.specs.declared.Loaded.the-variants.{Sheet, Refused}
@@ -17,23 +18,20 @@ refused-keeps pass due number row column new area e = cc
 refused-keeps (refuse a b c) due number row column new area e = refl
 
 module _ (bytes : List ℕ) (room : ℕ) {r : Loaded} (answered : headGiven r ≡ fileAnswer bytes room) where
-  module _ {reading n : ℕ} (sheet : r ≡ Sheet reading n) where
+  module _ {reading n : ℕ} {e : ℤ} (sheet : r ≡ Sheet reading n e) where
     head : Head
-    head = record { reading = reading; n = n }
+    head = record { reading = reading; n = n; e = e }
 
-    head-due : Head
-    head-due = record { reading = headReading bytes; n = headStages bytes }
-
-    due : given head ≡ answer (fileQuestions bytes room) head-due
-    unfolding fileAnswer head head-due
+    due : given head ≡ answer (fileQuestions bytes room) (headOf bytes)
+    unfolding fileAnswer head
     due = rw sheet at answered
 
     passes : fileQuestions bytes room ≡ pass
-    passes = given-passes (fileQuestions bytes room) head head-due due
+    passes = given-passes (fileQuestions bytes room) head (headOf bytes) due
 
     pub sheet-file : SheetFile bytes n
-    unfolding head head-due
-    sheet-file = record { room = room; passes = passes; stages = ap (λ h. h .n) (sym (given-is (fileQuestions bytes room) head head-due due)) }
+    unfolding head headOf
+    sheet-file = record { room = room; passes = passes; stages = ap (λ h. h .n) (sym (given-is (fileQuestions bytes room) head (headOf bytes) due)) }
 
     -- What filling the area asks.
     pub to-fill : SheetFile bytes n × (n * n ≤ room)
@@ -41,8 +39,8 @@ module _ (bytes : List ℕ) (room : ℕ) {r : Loaded} (answered : headGiven r �
     to-fill = (sheet-file, room-held bytes n sheet-file)
 
     -- The two promises, where the new numbers were written over the area's start.
-    pub sheet-read : {A : Type 0} (new area : List A) {exit : List A} → exit ≡ filled pass new area → (headGiven (Sheet reading n) ≡ fileAnswer bytes room) × (exit ≡ filled (fileQuestions bytes room) new area)
-    sheet-read new area e = (ap headGiven (sym sheet) ∙ answered, rw passes e)
+    pub sheet-read : {A : Type 0} (new area : List A) {exit : List A} → exit ≡ filled pass new area → (headGiven (Sheet reading n e) ≡ fileAnswer bytes room) × (exit ≡ filled (fileQuestions bytes room) new area)
+    sheet-read new area is = (ap headGiven (sym sheet) ∙ answered, rw passes is)
 
   -- The two promises, where nothing was written.
   pub refusal-read : {A : Type 0} (new area : List A) {number row column : ℕ} → r ≡ Refused number row column → (headGiven r ≡ fileAnswer bytes room) × (area ≡ filled (fileQuestions bytes room) new area)

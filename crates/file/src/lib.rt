@@ -19,7 +19,11 @@ pub fn read_words(bytes: &[u8], area: &mut [u64]) -> Loaded
     ensures { λ _. ⌜ now (area .exit) ≡ fileWordArea (now (bytes .entry)) (now (area .entry)) ⌝ }
 {
     let answer = judge(bytes, area.len());
-    if let Loaded::Sheet { reading: _, n } = answer {
+    if let Loaded::Sheet {
+        reading: _,
+        n,
+        e: _,
+    } = answer {
         payload::fill_words(bytes, n, area);
     }
     answer
@@ -31,7 +35,11 @@ pub fn read_numbers(bytes: &[u8], area: &mut [f64]) -> Loaded
     ensures { λ _. ⌜ now (area .exit) ≡ fileNumberArea (now (bytes .entry)) (now (area .entry)) ⌝ }
 {
     let answer = judge(bytes, area.len());
-    if let Loaded::Sheet { reading: _, n } = answer {
+    if let Loaded::Sheet {
+        reading: _,
+        n,
+        e: _,
+    } = answer {
         payload::fill_numbers(bytes, n, area);
     }
     answer
@@ -49,33 +57,33 @@ fn not_saved(number: usize) -> Saved
 }
 
 // Saves a sheet of 64-bit words: its file in the first bytes of the area, with every bit of the words.
-pub fn save_words(reading: usize, n: usize, words: &[u64], area: &mut [u8]) -> Saved
-    ensures { λ r. ⌜ savedGiven r ≡ saveAnswer reading n (length (now (words .entry))) (length (now (area .entry))) ⌝ }
-    ensures { λ _. ⌜ now (area .exit) ≡ savedWords reading n (now (words .entry)) (now (area .entry)) ⌝ }
+pub fn save_words(reading: usize, n: usize, e: i64, words: &[u64], area: &mut [u8]) -> Saved
+    ensures { λ r. ⌜ savedGiven r ≡ saveAnswer reading n e (length (now (words .entry))) (length (now (area .entry))) ⌝ }
+    ensures { λ _. ⌜ now (area .exit) ≡ savedWords reading n e (now (words .entry)) (now (area .entry)) ⌝ }
 {
-    let number = shape::ask_save(reading, n, words.len(), area.len());
+    let number = shape::ask_save(reading, n, e, words.len(), area.len());
     if number != 0 {
         return not_saved(number);
     }
-    let length = saving::put_sheet(reading, n, words, area);
+    let length = saving::put_sheet(reading, n, e, words, area);
     Saved::File { length }
 }
 
 // Saves a sheet of numbers, each by its bits.
-pub fn save_numbers(reading: usize, n: usize, sheet: &[f64], area: &mut [u8]) -> Saved
-    ensures { λ r. ⌜ savedGiven r ≡ saveAnswer reading n (length (now (sheet .entry))) (length (now (area .entry))) ⌝ }
-    ensures { λ _. ⌜ now (area .exit) ≡ savedNumbers reading n (now (sheet .entry)) (now (area .entry)) ⌝ }
+pub fn save_numbers(reading: usize, n: usize, e: i64, sheet: &[f64], area: &mut [u8]) -> Saved
+    ensures { λ r. ⌜ savedGiven r ≡ saveAnswer reading n e (length (now (sheet .entry))) (length (now (area .entry))) ⌝ }
+    ensures { λ _. ⌜ now (area .exit) ≡ savedNumbers reading n e (now (sheet .entry)) (now (area .entry)) ⌝ }
 {
-    let number = shape::ask_save(reading, n, sheet.len(), area.len());
+    let number = shape::ask_save(reading, n, e, sheet.len(), area.len());
     if number != 0 {
         return not_saved(number);
     }
-    let length = saving::put_numbers(reading, n, sheet, area);
+    let length = saving::put_numbers(reading, n, e, sheet, area);
     Saved::File { length }
 }
 
 // One byte more than the longest file: dwell takes no more of its input.
-pub const MOST: usize = 8459;
+pub const MOST: usize = 8461;
 
 // How many bytes of an input of `held` bytes dwell judges.
 pub fn judged(held: usize) -> usize

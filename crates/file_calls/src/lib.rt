@@ -9,13 +9,14 @@ pub fn read_numbers(
     area: &mut [f64],
     reading: &mut usize,
     n: &mut usize,
+    e: &mut i64,
     row: &mut usize,
     column: &mut usize,
 ) -> usize
-    ensures { λ r. ⌜ FileCall fileNumberArea (now (bytes .entry)) (now (area .entry)) (now (area .exit)) (now (reading .entry)) (now (reading .exit)) (now (n .entry)) (now (n .exit)) (now (row .exit)) (now (column .exit)) r ⌝ }
+    ensures { λ r. ⌜ FileCall fileNumberArea (now (bytes .entry)) (now (area .entry)) (now (area .exit)) (now (reading .entry)) (now (reading .exit)) (now (n .entry)) (now (n .exit)) (now (e .entry)) (now (e .exit)) (now (row .exit)) (now (column .exit)) r ⌝ }
 {
     let numbers = file::read_numbers(bytes, area);
-    out_places::hand_head(numbers, reading, n, row, column)
+    out_places::hand_head(numbers, reading, n, e, row, column)
 }
 
 // A sheet file's 64-bit words in the first n × n places of the area; every bit is kept.
@@ -24,28 +25,30 @@ pub fn read_words(
     area: &mut [u64],
     reading: &mut usize,
     n: &mut usize,
+    e: &mut i64,
     row: &mut usize,
     column: &mut usize,
 ) -> usize
-    ensures { λ r. ⌜ FileCall fileWordArea (now (bytes .entry)) (now (area .entry)) (now (area .exit)) (now (reading .entry)) (now (reading .exit)) (now (n .entry)) (now (n .exit)) (now (row .exit)) (now (column .exit)) r ⌝ }
+    ensures { λ r. ⌜ FileCall fileWordArea (now (bytes .entry)) (now (area .entry)) (now (area .exit)) (now (reading .entry)) (now (reading .exit)) (now (n .entry)) (now (n .exit)) (now (e .entry)) (now (e .exit)) (now (row .exit)) (now (column .exit)) r ⌝ }
 {
     let words = file::read_words(bytes, area);
-    out_places::hand_head(words, reading, n, row, column)
+    out_places::hand_head(words, reading, n, e, row, column)
 }
 
 // A sheet of numbers as a file in the first bytes of the area, each number by its bits.
 pub fn save_numbers(
     reading: usize,
     n: usize,
+    e: i64,
     sheet: &[f64],
     bytes: &mut [u8],
     length: &mut usize,
     row: &mut usize,
     column: &mut usize,
 ) -> usize
-    ensures { λ r. ⌜ SaveCall savedNumbers reading n (now (sheet .entry)) (now (bytes .entry)) (now (bytes .exit)) (now (length .entry)) (now (length .exit)) (now (row .exit)) (now (column .exit)) r ⌝ }
+    ensures { λ r. ⌜ SaveCall savedNumbers reading n e (now (sheet .entry)) (now (bytes .entry)) (now (bytes .exit)) (now (length .entry)) (now (length .exit)) (now (row .exit)) (now (column .exit)) r ⌝ }
 {
-    let saved = file::save_numbers(reading, n, sheet, bytes);
+    let saved = file::save_numbers(reading, n, e, sheet, bytes);
     out_places::hand_length(saved, length, row, column)
 }
 
@@ -53,14 +56,15 @@ pub fn save_numbers(
 pub fn save_words(
     reading: usize,
     n: usize,
+    e: i64,
     sheet: &[u64],
     bytes: &mut [u8],
     length: &mut usize,
     row: &mut usize,
     column: &mut usize,
 ) -> usize
-    ensures { λ r. ⌜ SaveCall savedWords reading n (now (sheet .entry)) (now (bytes .entry)) (now (bytes .exit)) (now (length .entry)) (now (length .exit)) (now (row .exit)) (now (column .exit)) r ⌝ }
+    ensures { λ r. ⌜ SaveCall savedWords reading n e (now (sheet .entry)) (now (bytes .entry)) (now (bytes .exit)) (now (length .entry)) (now (length .exit)) (now (row .exit)) (now (column .exit)) r ⌝ }
 {
-    let saved = file::save_words(reading, n, sheet, bytes);
+    let saved = file::save_words(reading, n, e, sheet, bytes);
     out_places::hand_length(saved, length, row, column)
 }

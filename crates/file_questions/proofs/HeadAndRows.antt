@@ -1,13 +1,17 @@
 -- Questions 12 and 13 in terms of the numbers that are read at the places of the head and of a row.
 use Prim.Native.Nat.{ℕ, _+_, _*_, _≤_}
-use mathlib.Core.Bool.{false, _&&_, _||_}
+use mathlib.Core.Bool.{true, false, not, _&&_, _||_}
 use mathlib.Core.List.{List}
+use mathlib.Core.Logic.{⊎-elim}
 use mathlib.Core.Path.{_≡_}
 use native.Mathlib.Omega.{arith}
-use borrow.Author.Tests.{eq-eqb, ne-eqb}
-use lib.Dec.{leb, eqb}
+use borrow.Author.Tests.{eq-eqb, ne-eqb, eqb-true, not-true, not-false}
+use lib.Dec.{leb, eqb, eqb→eq}
+use lib.IntN.{ℤ, pos}
 use lib.ListN.{drop}
-use Rattle.definitions.specs.File.{little, recordLength, recordKind, headReading, headStages, goodHead, goodRow}
+use Rattle.exact.proofs.Bools.{holds, or-cases}
+use Rattle.definitions.specs.Questions.{exponentInRange}
+use Rattle.definitions.specs.File.{little, signed, recordLength, recordKind, headLength, oldHeadLength, headReading, headStages, headUnit, knownHead, goodHead, goodRow}
 use Rattle.records.proofs.Records.{kind-at, payload-at}
 
 module _ (bytes : List ℕ) (at : ℕ) where
@@ -32,22 +36,48 @@ module _ (bytes : List ℕ) where
   unfolding goodHead recordKind
   head-kind kind e h = rw (← e, ne-eqb kind 1 h)
 
-  pub head-length : (size : ℕ) → little 2 (drop 4 bytes) ≡ 1 → size ≡ little 4 bytes → (size ≡ 4 → ⊥) → false ≡ goodHead bytes
-  unfolding goodHead recordKind recordLength
-  head-length size k e h = rw (k, ← e, ne-eqb size 4 h)
+  pub head-length : (size : ℕ) → little 2 (drop 4 bytes) ≡ 1 → size ≡ little 4 bytes → not (eqb size 4 || eqb size 6) ≡ true → false ≡ goodHead bytes
+  unfolding goodHead knownHead recordKind recordLength headLength oldHeadLength
+  head-length size k e h = rw (k, ← e, not-true (eqb size 4 || eqb size 6) h)
 
-  pub head-reading : recordLength bytes ≡ 4 → headReading bytes ≡ little 2 (drop 6 bytes)
-  unfolding headReading
-  head-reading l =
-      let held : 0 + 2 ≤ recordLength bytes = omega arith in
-      payload-at bytes 0 0 2 held
+  pub length-known : (size : ℕ) → size ≡ little 4 bytes → not (eqb size 4 || eqb size 6) ≡ false → knownHead bytes ≡ true
+  unfolding knownHead recordLength headLength oldHeadLength
+  length-known size e h = rw (← e) (not-false (eqb size 4 || eqb size 6) h)
 
-  pub head-stages : recordLength bytes ≡ 4 → headStages bytes ≡ little 2 (drop 8 bytes)
-  unfolding headStages
-  head-stages l =
-      let held : 2 + 2 ≤ recordLength bytes = omega arith in
-      payload-at bytes 0 2 2 held
+  pub at-least-four : knownHead bytes ≡ true → 4 ≤ recordLength bytes
+  unfolding knownHead headLength oldHeadLength
+  at-least-four known =
+      ⊎-elim (λ t. omega (arith, eqb→eq (recordLength bytes) 4 t)) (λ t. omega (arith, eqb→eq (recordLength bytes) 6 t))
+      (or-cases (eqb (recordLength bytes) 4) (eqb (recordLength bytes) 6) (holds known))
 
-  pub head-holds : (reading n : ℕ) → little 2 (drop 4 bytes) ≡ 1 → recordLength bytes ≡ 4 → reading ≡ little 2 (drop 6 bytes) → n ≡ little 2 (drop 8 bytes) → ((eqb reading 1 || eqb reading 2) && leb 1 n && leb n 32) ≡ goodHead bytes
-  unfolding goodHead recordKind
-  head-holds reading n k l r e = rw (k, head-reading l, head-stages l, l, r, e)
+  pub not-four : knownHead bytes ≡ true → (recordLength bytes ≡ 4 → ⊥) → recordLength bytes ≡ 6
+  unfolding knownHead headLength oldHeadLength
+  not-four known other = eqb-true (recordLength bytes) 6 (rw (ne-eqb (recordLength bytes) 4 other) at known)
+
+  module _ (known : knownHead bytes ≡ true) where
+    pub head-reading : headReading bytes ≡ little 2 (drop 6 bytes)
+    unfolding headReading
+    head-reading =
+        let held : 0 + 2 ≤ recordLength bytes = omega (arith, at-least-four known) in
+        payload-at bytes 0 0 2 held
+
+    pub head-stages : headStages bytes ≡ little 2 (drop 8 bytes)
+    unfolding headStages
+    head-stages =
+        let held : 2 + 2 ≤ recordLength bytes = omega (arith, at-least-four known) in
+        payload-at bytes 0 2 2 held
+
+    pub old-unit : recordLength bytes ≡ 4 → pos 0 ≡ headUnit bytes
+    unfolding headUnit oldHeadLength
+    old-unit is = rw (eq-eqb (recordLength bytes) 4 is)
+
+    pub new-unit : (recordLength bytes ≡ 4 → ⊥) → signed (little 2 (drop 10 bytes)) ≡ headUnit bytes
+    unfolding headUnit oldHeadLength
+    new-unit other =
+        let held : 4 + 2 ≤ recordLength bytes = omega (arith, not-four known other) in
+        rw (ne-eqb (recordLength bytes) 4 other, payload-at bytes 0 4 2 held)
+
+    pub head-holds : (reading n : ℕ) (e : ℤ) → little 2 (drop 4 bytes) ≡ 1 → reading ≡ little 2 (drop 6 bytes) → n ≡ little 2 (drop 8 bytes) → e ≡ headUnit bytes
+        → ((eqb reading 1 || eqb reading 2) && leb 1 n && leb n 32 && exponentInRange e) ≡ goodHead bytes
+    unfolding goodHead recordKind
+    head-holds reading n e k r s u = rw (k, known, head-reading, head-stages, r, s, u)

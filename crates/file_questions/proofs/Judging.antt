@@ -6,44 +6,49 @@ use mathlib.Core.Path.{_≡_, sym, _∙_}
 use native.Mathlib.Nat.{mul-le-mul}
 use native.Mathlib.Omega.{arith}
 use borrow.Author.Tests.{lt-leb, le-leb, leb-true, ne-eqb, eqb-true}
-use lib.Dec.{leb, eqb}
+use lib.Dec.{T, leb, eqb}
+use lib.IntN.{ℤ}
 use lib.ListN.{length, drop, length-drop}
 use lib.Seq.{drop-drop}
-use Rattle.definitions.specs.Questions.{Asked, pass, refuse, _then_, question1, question2, question4}
+use Rattle.definitions.specs.Questions.{Asked, pass, refuse, _then_, exponentInRange, question1, question2, question4}
 use Rattle.definitions.specs.Services.{refused}
-use Rattle.definitions.specs.File.{recordKind, recordLength, payload, little, rest, wholeRecord, headReading, headStages, goodHead, goodRow, rowQuestions, fileQuestions, fileAnswer}
+use Rattle.definitions.specs.File.{recordKind, recordLength, payload, little, rest, wholeRecord, headReading, headStages, headUnit, knownHead, goodHead, goodRow, rowQuestions, fileQuestions, headOf, fileAnswer}
 use Rattle.answers.specs.declared.Loaded.{Loaded}
 use Rattle.answers.specs.declared.Loaded.the-variants.{Sheet}
 use Rattle.answers.specs.Answers.{headGiven}
-use Rattle.exact.proofs.Bools.{and-first, and-second}
+use Rattle.exact.proofs.Bools.{and-first, and-second, holds}
 use Rattle.records.proofs.Records.{whole-room}
 use Rattle.file_questions.proofs.HeadAndRows.{head-reading, head-stages}
 
 -- What a good head says of its numbers.
 pub record Read (bytes : List ℕ) : Type 0 where
   pub kind : recordKind bytes ≡ 1
-  pub size : recordLength bytes ≡ 4
+  pub size : knownHead bytes ≡ true
   pub reading : (eqb (headReading bytes) 1 || eqb (headReading bytes) 2) ≡ true
   pub least : 1 ≤ headStages bytes
   pub most : headStages bytes ≤ 32
+  pub unit : T (exponentInRange (headUnit bytes))
 
 pub head-read : (bytes : List ℕ) → goodHead bytes ≡ true → Read bytes
 unfolding goodHead
 head-read bytes e =
     let kind = eqb (recordKind bytes) 1 in
-    let size = eqb (recordLength bytes) 4 in
+    let size = knownHead bytes in
     let reading = eqb (headReading bytes) 1 || eqb (headReading bytes) 2 in
     let least = leb 1 (headStages bytes) in
     let most = leb (headStages bytes) 32 in
-    let upToLeast = and-first (kind && size && reading && least) most e in
+    let unit = exponentInRange (headUnit bytes) in
+    let upToMost = and-first (kind && size && reading && least && most) unit e in
+    let upToLeast = and-first (kind && size && reading && least) most upToMost in
     let upToReading = and-first (kind && size && reading) least upToLeast in
     let upToSize = and-first (kind && size) reading upToReading in
     record {
       kind = eqb-true (recordKind bytes) 1 (and-first kind size upToSize);
-      size = eqb-true (recordLength bytes) 4 (and-second kind size upToSize);
+      size = and-second kind size upToSize;
       reading = and-second (kind && size) reading upToReading;
       least = leb-true 1 (headStages bytes) (and-second (kind && size && reading) least upToLeast);
-      most = leb-true (headStages bytes) 32 (and-second (kind && size && reading && least) most e);
+      most = leb-true (headStages bytes) 32 (and-second (kind && size && reading && least) most upToMost);
+      unit = holds (and-second (kind && size && reading && least && most) unit e);
     }
 
 -- What a good row says of its numbers.
@@ -79,12 +84,12 @@ module _ (bytes : List ℕ) (room : ℕ) where
   head-bad w g = rw (w, g)
 
   -- 12 has asked 1 and 2.
-  pub head-good : wholeRecord bytes ≡ true → goodHead bytes ≡ true → (n : ℕ) → n ≡ headStages bytes → fileQuestions bytes room ≡ rowsLeft bytes room n 10 1
+  pub head-good : wholeRecord bytes ≡ true → goodHead bytes ≡ true → (n : ℕ) → n ≡ headStages bytes → fileQuestions bytes room ≡ rowsLeft bytes room n (6 + recordLength bytes) 1
   unfolding fileQuestions rowsLeft question1 question2 rest
   head-good w g n e =
       let r = head-read bytes g in
       let all : n + 1 - 1 ≡ n = omega arith in
-      rw (w, g, r .reading, le-leb 1 (headStages bytes) (r .least), le-leb (headStages bytes) 32 (r .most), r .size, all, e)
+      rw (w, g, r .reading, le-leb 1 (headStages bytes) (r .least), le-leb (headStages bytes) 32 (r .most), all, e)
 
   module _ (n at due : ℕ) where
     pub row-cut : due ≤ n → wholeRecord (drop at bytes) ≡ false → rowsLeft bytes room n at due ≡ refuse 11 due 0
@@ -127,9 +132,9 @@ module _ (bytes : List ℕ) (room : ℕ) where
   unfolding fileAnswer
   refused-by number row r i e = i ∙ rw e
 
-  pub given-by : (reading n : ℕ) → reading ≡ headReading bytes → n ≡ headStages bytes → fileQuestions bytes room ≡ pass → headGiven (Sheet reading n) ≡ fileAnswer bytes room
-  unfolding fileAnswer
-  given-by reading n r s e = rw (e, r, s)
+  pub given-by : (reading n : ℕ) (e : ℤ) → reading ≡ headReading bytes → n ≡ headStages bytes → e ≡ headUnit bytes → fileQuestions bytes room ≡ pass → headGiven (Sheet reading n e) ≡ fileAnswer bytes room
+  unfolding fileAnswer headOf
+  given-by reading n e r s u q = rw (q, r, s, u)
 
 pub few-squared : (n : ℕ) → n ≤ 32 → n * n ≤ 1024
 few-squared n h = mul-le-mul h h
@@ -151,7 +156,7 @@ pub record Judged (bytes : List ℕ) (room reading n at due : ℕ) : Type 0 wher
   pub left : fileQuestions bytes room ≡ rowsLeft bytes room n at due
 
 module _ (bytes : List ℕ) (room reading n : ℕ) where
-  pub judged-head : wholeRecord bytes ≡ true → goodHead bytes ≡ true → reading ≡ little 2 (drop 6 bytes) → n ≡ little 2 (drop 8 bytes) → Judged bytes room reading n 10 1
+  pub judged-head : wholeRecord bytes ≡ true → goodHead bytes ≡ true → reading ≡ little 2 (drop 6 bytes) → n ≡ little 2 (drop 8 bytes) → Judged bytes room reading n (6 + recordLength bytes) 1
   judged-head w g r s =
       let read = head-read bytes g in
       let stages : n ≡ headStages bytes = s ∙ sym (head-stages bytes (read .size)) in

@@ -1,2 +1,2 @@
-mod HeadAndRows
+pub mod HeadAndRows
 pub mod Judging

@@ -1,13 +1,26 @@
-// The questions of a sheet file (document 01): 11 to 14 record by record, then 4.
+// The questions of a sheet file (document 01; document 02, U5): 11 to 14 record by record, then 4.
+ghost use mathlib.Core.Bool.{true};
 ghost use mathlib.Core.Path.{_≡_};
 ghost use Prim.Native.Nat.{_+_, _≤_};
 ghost use lib.ListN.{length, drop};
-ghost use Rattle.definitions.specs.File.{recordLength, goodHead, goodRow, fileAnswer};
+ghost use Rattle.definitions.specs.File.{recordLength, headUnit, knownHead, goodHead, goodRow, fileAnswer};
 ghost use Rattle.definitions.specs.Services as services;
 ghost use Rattle.answers.specs.Answers.{headGiven};
 use answers::Loaded;
 use records::field_at;
 use records::is_whole;
+use records::signed_at;
+
+// The unit that a head says, of either length; an old head says none, and its unit is the second.
+fn unit_of(bytes: &[u8]) -> i64
+    requires { ⌜ (6 + recordLength (now bytes) ≤ length (now bytes)) × (knownHead (now bytes) ≡ true) ⌝ }
+    ensures { λ r. ⌜ r ≡ headUnit (now (bytes .entry)) ⌝ }
+{
+    if field_at(bytes, 0, 4) == 4 {
+        return 0;
+    }
+    signed_at(bytes, 10)
+}
 
 // Question 12, of a head that the file holds whole.
 fn is_good_head(bytes: &[u8]) -> bool
@@ -17,12 +30,14 @@ fn is_good_head(bytes: &[u8]) -> bool
     if field_at(bytes, 4, 2) != 1 {
         return false;
     }
-    if field_at(bytes, 0, 4) != 4 {
+    let size = field_at(bytes, 0, 4);
+    if !((size == 4) | (size == 6)) {
         return false;
     }
     let reading = field_at(bytes, 6, 2);
     let n = field_at(bytes, 8, 2);
-    ((reading == 1) | (reading == 2)) & (1 <= n) & (n <= 32)
+    let e = unit_of(bytes);
+    ((reading == 1) | (reading == 2)) & (1 <= n) & (n <= 32) & ((-512 <= e) & (e <= 512))
 }
 
 // Question 13, of the row that starts at `at` and that the file holds whole.
@@ -64,7 +79,8 @@ pub fn judge(bytes: &[u8], room: usize) -> Loaded
     }
     let reading = field_at(bytes, 6, 2);
     let n = field_at(bytes, 8, 2);
-    let mut at = 10;
+    let e = unit_of(bytes);
+    let mut at = 6 + field_at(bytes, 0, 4);
     let mut due = 1;
     while due <= n {
         if !is_whole(bytes, at) {
@@ -83,5 +99,5 @@ pub fn judge(bytes: &[u8], room: usize) -> Loaded
     if room < places {
         return refused(4, 0);
     }
-    Loaded::Sheet { reading, n }
+    Loaded::Sheet { reading, n, e }
 }

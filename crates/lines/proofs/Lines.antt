@@ -9,11 +9,7 @@ use lib.Ieee.{Float, binary64, toBits}
 use Rattle.buffer.specs.Pasted.{Written}
 use Rattle.digits.proofs.Digits.{field}
 use Rattle.buffer.proofs.Pasting.{written-nothing}
-use Rattle.definitions.specs.Dwell.{text, hexadecimal, secondsLine, entryLine, rowLines, tableLines}
-
-pub seconds-pieces : (n allowed : ℕ) → secondsLine n allowed ≡ text "seconds " ++ field n 32 ++ field allowed 10
-unfolding secondsLine text
-seconds-pieces n allowed = simp append-assoc
+use Rattle.definitions.specs.Dwell.{text, hexadecimal, entryLine, rowLines, tableLines}
 
 pub entry-pieces : (row column : ℕ) (x : Float) (word : ℕ) → word ≡ toBits binary64 x → entryLine row column x ≡ field row 32 ++ field column 32 ++ hexadecimal 16 word ++ (10 ∷ [])
 unfolding entryLine text

@@ -12,7 +12,8 @@ use lib.Ieee.{Float, nan, binary64, fits, ofBits}
 use lib.Ieee.Fits.{and-l}
 use Rattle.exact.proofs.Bools.{holds}
 use Rattle.definitions.specs.Numbers.{_⊗_, _⊘_, all}
-use Rattle.definitions.specs.Moving.{exponentInRange, sheetHasRoom}
+use Rattle.definitions.specs.Questions.{exponentInRange}
+use Rattle.definitions.specs.Moving.{sheetHasRoom}
 use Rattle.rounding.specs.ResultRange.{sizeWithin}
 use Rattle.rounding.proofs.Words.{smallest-word, largest-word}
 use Rattle.rounding.proofs.SizeWithin.{room-down, room-up, least-limit, most-limit}

@@ -1,4 +1,4 @@
--- What moving a sheet promises (document 02, U4), and what its numbers are known to be before question 16.
+-- What moving a sheet promises (document 02, U4 and U5), and what its numbers are known to be before question 16.
 use mathlib.Core.List.{List}
 use mathlib.Core.Path.{_≡_}
 use Prim.Native.Nat.{ℕ, _<_}
@@ -7,16 +7,16 @@ use lib.IntN.{ℤ}
 use lib.ListN.{length, getD}
 use lib.Ieee.{Float, nan}
 use Rattle.definitions.specs.Numbers.{finite}
-use Rattle.definitions.specs.Questions.{largeEnough}
-use Rattle.definitions.specs.Moving.{exponentInRange, moveAnswer, movedArea}
+use Rattle.definitions.specs.Questions.{exponentInRange, largeEnough}
+use Rattle.definitions.specs.Moving.{moveAnswer, movedArea}
 use Rattle.rounding.specs.Scaling.{power}
 use Rattle.answers.specs.declared.Moved.{Moved}
 use Rattle.answers.specs.Answers.{movedGiven}
 
 -- The answer r, and each place of the second area before and after.
-pub record MoveDone (reading n : ℕ) (sheet : List Float) (k : ℤ) (before after : List Float) (r : Moved) : Type 0 where
-  pub answered : movedGiven r ≡ moveAnswer reading n sheet k (length before)
-  pub area : after ≡ movedArea reading n sheet k before
+pub record MoveDone (reading n : ℕ) (e : ℤ) (sheet : List Float) (k : ℤ) (before after : List Float) (r : Moved) : Type 0 where
+  pub answered : movedGiven r ≡ moveAnswer reading n e sheet k (length before)
+  pub area : after ≡ movedArea reading n e sheet k before
 
 -- k is in range and `factor` is 2^k; questions 6 and 8 passed.
 pub record Movable (k : ℤ) (factor : Float) (sheet : List Float) : Type 0 where

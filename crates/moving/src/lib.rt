@@ -1,15 +1,17 @@
-// Moving a sheet to another time unit (document 02, U4): every number times 2^k, in a second lent area. The
+// Moving a sheet to another time unit (document 02, U4 and U5): every number times 2^k, in a second lent area. The
 // service has no `requires`: its questions are asked in order, and a no ends the call with no place changed.
 ghost use Prim.Native.Nat.{_≤_};
 ghost use mathlib.Core.List.{map};
 ghost use mathlib.Core.Path.{_≡_};
-ghost use lib.Dec.{T};
 ghost use lib.ListN.{length, getD};
 ghost use lib.Ieee.{nan};
 ghost use Rattle.definitions.specs.Numbers.{_⊗_, all};
-ghost use Rattle.definitions.specs.Questions.{pass};
+ghost use Rattle.definitions.specs.Questions.{pass, ask};
+ghost use Rattle.definitions.specs.Services as services;
 ghost use Rattle.definitions.specs.Services.{filled};
-ghost use Rattle.definitions.specs.Moving.{exponentInRange, sheetHasRoom, moveInput};
+ghost use Rattle.definitions.specs.Moving.{sheetHasRoom, movedSheet};
+ghost use Rattle.answers.specs.Answers.{movedGiven};
+ghost use Rattle.rounding.specs.Scaling.{power};
 ghost use Rattle.rounding.specs.ResultRange.{sizeWithin};
 ghost use Rattle.moving.specs.Promises.{Movable, MoveDone};
 use answers::Moved;
@@ -59,28 +61,43 @@ fn times_power(power: f64, sheet: &[f64], area: &mut [f64])
     }
 }
 
-// The numbers of a sheet that passed questions 1 to 8 and 15. Nothing is written before question 16 passes too.
-fn move_numbers(reading: usize, n: usize, sheet: &[f64], k: i64, area: &mut [f64]) -> Moved
-    requires { ⌜ (moveInput reading n (now sheet) (length (now area)) ≡ pass) × T (exponentInRange k) ⌝ }
-    ensures { λ r. ⌜ MoveDone reading n (now (sheet .entry)) k (now (area .entry)) (now (area .exit)) r ⌝ }
+// Question 16, and the moved numbers where it passes; where it does not, nothing is written.
+fn move_numbers(k: i64, sheet: &[f64], area: &mut [f64]) -> bool
+    requires { ⌜ Movable k (power k) (now sheet) × (length (now sheet) ≤ length (now area)) ⌝ }
+    ensures { λ r. ⌜ r ≡ sheetHasRoom k (now (sheet .entry)) ⌝ }
+    ensures { λ r. ⌜ now (area .exit) ≡ filled (ask r 16 0 0) (movedSheet k (now (sheet .entry))) (now (area .entry)) ⌝ }
 {
     let power = powers::power_of_two(k);
     if has_room(k, power, sheet) {
         times_power(power, sheet, area);
-        return Moved::Sheet;
+        return true;
     }
+    false
+}
+
+// The last three questions have no row and no column.
+fn refused(number: usize) -> Moved
+    ensures { λ r. ⌜ movedGiven r ≡ services.refused number 0 0 ⌝ }
+{
     Moved::Refused {
-        number: 16,
+        number,
         row: 0,
         column: 0,
     }
 }
 
-// The sheet times 2^k, in the first n × n places of the area.
-pub fn move_sheet(reading: usize, n: usize, sheet: &[f64], k: i64, area: &mut [f64]) -> Moved
-    ensures { λ r. ⌜ MoveDone reading n (now (sheet .entry)) k (now (area .entry)) (now (area .exit)) r ⌝ }
+// The sheet times 2^k, in the first n × n places of the area, and its unit.
+pub fn move_sheet(
+    reading: usize,
+    n: usize,
+    e: i64,
+    sheet: &[f64],
+    k: i64,
+    area: &mut [f64],
+) -> Moved
+    ensures { λ r. ⌜ MoveDone reading n e (now (sheet .entry)) k (now (area .entry)) (now (area .exit)) r ⌝ }
 {
-    let asked = sheet::move_input(reading, n, sheet, area.len());
+    let asked = sheet::move_input(reading, n, e, sheet, area.len());
     if asked.number != 0 {
         return Moved::Refused {
             number: asked.number,
@@ -89,11 +106,14 @@ pub fn move_sheet(reading: usize, n: usize, sheet: &[f64], k: i64, area: &mut [f
         };
     }
     if !((-512 <= k) & (k <= 512)) {
-        return Moved::Refused {
-            number: 15,
-            row: 0,
-            column: 0,
-        };
+        return refused(15);
     }
-    move_numbers(reading, n, sheet, k, area)
+    let unit = e + k;
+    if !((-512 <= unit) & (unit <= 512)) {
+        return refused(17);
+    }
+    if !move_numbers(k, sheet, area) {
+        return refused(16);
+    }
+    Moved::Sheet { e: unit }
 }

@@ -1,6 +1,7 @@
 -- What an answer leaves where the call is accepted and where it is refused.
 use mathlib.Core.Path.{_≡_}
 use Prim.Native.Nat.{ℕ}
+use lib.IntN.{ℤ}
 use Rattle.definitions.specs.File.{Head}
 use Rattle.definitions.specs.Services.{Answer, given, refused}
 use Rattle.out_places.specs.OutPlaces.{numberOf, rowOf, columnOf, handed, Refusal, ValueHanded, HeadHanded}
@@ -22,11 +23,11 @@ module _ {A : Type 0} {a : Answer A} where
   unfolding handed
   value-kept before e = record { told = refusal-given e; gives = rw e }
 
-module _ {a : Answer Head} (reading n : ℕ) where
-  pub head-given : {head : Head} → a ≡ given head → HeadHanded a reading (head .reading) n (head .n) 0 0 0
+module _ {a : Answer Head} (reading n : ℕ) (e : ℤ) where
+  pub head-given : {head : Head} → a ≡ given head → HeadHanded a reading (head .reading) n (head .n) e (head .e) 0 0 0
   unfolding handed
-  head-given e = record { told = none-given e; reads = rw e; stages = rw e }
+  head-given is = record { told = none-given is; reads = rw is; stages = rw is; unit = rw is }
 
-  pub head-kept : {number row column : ℕ} → a ≡ refused number row column → HeadHanded a reading reading n n row column number
+  pub head-kept : {number row column : ℕ} → a ≡ refused number row column → HeadHanded a reading reading n n e e row column number
   unfolding handed
-  head-kept e = record { told = refusal-given e; reads = rw e; stages = rw e }
+  head-kept is = record { told = refusal-given is; reads = rw is; stages = rw is; unit = rw is }

@@ -1,6 +1,7 @@
 -- An answer of document 01 as numbers: what a call returns, and what it leaves in its out places.
 use mathlib.Core.Path.{_≡_}
 use Prim.Native.Nat.{ℕ}
+use lib.IntN.{ℤ}
 use Rattle.definitions.specs.File.{Head}
 use Rattle.definitions.specs.Services.{Answer, given, refused}
 
@@ -34,8 +35,9 @@ pub record ValueHanded {A : Type 0} (answer : Answer A) (before after : A) (atRo
   pub told : Refusal answer returned atRow atColumn
   pub gives : after ≡ handed (λ value. value) answer before
 
--- The same for a head, with the places for the reading and for the number of stages.
-pub record HeadHanded (answer : Answer Head) (reading reading' n n' atRow atColumn returned : ℕ) : Type 0 where
+-- The same for a head, with the places for the reading, for the number of stages and for e.
+pub record HeadHanded (answer : Answer Head) (reading reading' n n' : ℕ) (e e' : ℤ) (atRow atColumn returned : ℕ) : Type 0 where
   pub told : Refusal answer returned atRow atColumn
   pub reads : reading' ≡ handed (λ head. head .reading) answer reading
   pub stages : n' ≡ handed (λ head. head .n) answer n
+  pub unit : e' ≡ handed (λ head. head .e) answer e

@@ -2,7 +2,7 @@
 // returned, or 0, and `row` and `column` tell the rest of it, 0 and 0 where there is none. What the call hands
 // over goes to the other places, which a refused call leaves as they were.
 ghost use Rattle.answers.specs.Answers.{filledGiven, entryGiven, headGiven, savedGiven, movedGiven};
-ghost use Rattle.out_places.specs.OutPlaces.{Refusal, ValueHanded, HeadHanded};
+ghost use Rattle.out_places.specs.OutPlaces.{ValueHanded, HeadHanded};
 use answers::Entry;
 use answers::Filled;
 use answers::Loaded;
@@ -84,18 +84,21 @@ pub fn hand_head(
     told: Loaded,
     reading: &mut usize,
     n: &mut usize,
+    e: &mut i64,
     row: &mut usize,
     column: &mut usize,
 ) -> usize
-    ensures { λ r. ⌜ HeadHanded (headGiven told) (now (reading .entry)) (now (reading .exit)) (now (n .entry)) (now (n .exit)) (now (row .exit)) (now (column .exit)) r ⌝ }
+    ensures { λ r. ⌜ HeadHanded (headGiven told) (now (reading .entry)) (now (reading .exit)) (now (n .entry)) (now (n .exit)) (now (e .entry)) (now (e .exit)) (now (row .exit)) (now (column .exit)) r ⌝ }
 {
     match told {
         Loaded::Sheet {
             reading: read,
             n: stages,
+            e: unit,
         } => {
             *reading = read;
             *n = stages;
+            *e = unit;
             *row = 0;
             *column = 0;
             0
@@ -112,12 +115,12 @@ pub fn hand_head(
     }
 }
 
-// Nothing but whether the call is accepted.
-pub fn hand_moved(told: Moved, row: &mut usize, column: &mut usize) -> usize
-    ensures { λ r. ⌜ Refusal (movedGiven told) r (now (row .exit)) (now (column .exit)) ⌝ }
+pub fn hand_moved(told: Moved, e: &mut i64, row: &mut usize, column: &mut usize) -> usize
+    ensures { λ r. ⌜ ValueHanded (movedGiven told) (now (e .entry)) (now (e .exit)) (now (row .exit)) (now (column .exit)) r ⌝ }
 {
     match told {
-        Moved::Sheet => {
+        Moved::Sheet { e: moved } => {
+            *e = moved;
             *row = 0;
             *column = 0;
             0

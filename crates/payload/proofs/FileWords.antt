@@ -121,8 +121,7 @@ pub record FilePassed (bytes : List ℕ) (n room : ℕ) : Type 0 where
   pub read : Read bytes
   pub least : 1 ≤ n
   pub most : n ≤ 32
-  pub inside : 10 ≤ length bytes
-  pub ends : rest bytes ≡ drop 10 bytes
+  pub inside : 6 + recordLength bytes ≤ length bytes
   pub rows : rowQuestions n 1 n (rest bytes) ≡ pass
   pub held : question4 (n * n) room ≡ pass
 
@@ -142,14 +141,12 @@ file-passed bytes n file =
     let read = head-read bytes (is-true (goodHead bytes) (ask-yes (goodHead bytes) 12 0 0 (then-first good (rows then last) from-head))) in
     let pass-rows = then-first rows last from-rows in
     let pass-room = then-next (question2 stages) room from-size in
-    let end : 6 + recordLength bytes ≡ 10 = omega arith in
     record {
       whole = is-whole;
       read = read;
       least = rw (file .stages) at (read .least);
       most = rw (file .stages) at (read .most);
       inside = omega (arith, whole-room bytes 0 is-whole);
-      ends = ap (λ i. drop i bytes) end;
       rows = rw (file .stages) at pass-rows;
       held = rw (file .stages) at pass-room;
     }
@@ -169,21 +166,25 @@ module _ (bytes : List ℕ) (n : ℕ) (file : SheetFile bytes n) where
   unfolding fileWords
   file-words-length = rw (file .stages) (row-words-length n n (rest bytes))
 
-  pub file-word : (k : ℕ) → k < n * n → getD (fileWords bytes) k 0 ≡ little 8 (drop (18 + 8 * (k + k / n)) bytes)
-  unfolding fileWords
+  pub head-held : 6 + recordLength bytes ≤ length bytes
+  head-held = file-passed bytes n file .inside
+
+  pub file-word : (k : ℕ) → k < n * n → getD (fileWords bytes) k 0 ≡ little 8 (drop (14 + recordLength bytes + 8 * (k + k / n)) bytes)
+  unfolding fileWords rest
   file-word k h =
       let p = file-passed bytes n file in
-      let place : 10 + (8 + 8 * (k + k / n)) ≡ 18 + 8 * (k + k / n) = omega arith in
+      let behind = 6 + recordLength bytes in
+      let place : behind + (8 + 8 * (k + k / n)) ≡ 14 + recordLength bytes + 8 * (k + k / n) = omega arith in
       rw (file .stages)
       (row-words-at n 1 n k (rest bytes) (p .rows) (p .least) h
-      ∙ ap (λ l. little 8 (drop (8 + 8 * (k + k / n)) l)) (p .ends)
-      ∙ ap (little 8) (drop-drop (8 + 8 * (k + k / n)) 10 bytes ∙ ap (λ i. drop i bytes) place))
+      ∙ ap (little 8) (drop-drop (8 + 8 * (k + k / n)) behind bytes ∙ ap (λ i. drop i bytes) place))
 
-  pub word-held : (k : ℕ) → k < n * n → 18 + 8 * (k + k / n) + 8 ≤ length bytes
+  pub word-held : (k : ℕ) → k < n * n → 14 + recordLength bytes + 8 * (k + k / n) + 8 ≤ length bytes
+  unfolding rest
   word-held k h =
       let p = file-passed bytes n file in
       let size : length (rest bytes) ≡ n * (8 * n + 8) = rows-size n 1 n (rest bytes) (p .rows) in
-      let cut : length (rest bytes) ≡ length bytes - 10 = ap length (p .ends) ∙ length-drop 10 bytes in
+      let cut : length (rest bytes) ≡ length bytes - (6 + recordLength bytes) = length-drop (6 + recordLength bytes) bytes in
       let row : k / n < n = div-lt-iff-lt-mul (p .least) .1 h in
       omega (arith, p .inside)
 

@@ -4,6 +4,7 @@ use Prim.Native.Nat.{ℕ, _*_, _-_, _<_}
 use native.Mathlib.Omega.{arith}
 use mathlib.Core.Bool.{Bool, true, false}
 use mathlib.Core.List.{List, _++_}
+use lib.IntN.{ℤ}
 use lib.ListN.{length, drop}
 use lib.Ieee.{Float}
 use Rattle.definitions.specs.Fractions.{Fraction}
@@ -11,14 +12,14 @@ use Rattle.definitions.specs.Sheet.{place, takesPart, allowance}
 use Rattle.definitions.specs.Tables.{rows}
 use Rattle.definitions.specs.Table.{entry}
 use Rattle.definitions.specs.Matrix.{matrix}
-use Rattle.definitions.specs.Questions.{pass, refuse, _then_, question1, question2, question3, question4, question5, question10, numberQuestions, tableInput, tableQuestions, entryInput, entryQuestions}
+use Rattle.definitions.specs.Questions.{pass, refuse, _then_, question4, question5, question10, numberQuestions, tableInput, tableQuestions, entryInput, entryQuestions}
 use Rattle.definitions.specs.Accuracy.{Binary64, Within, extended, Accurate}
 use Rattle.definitions.specs.Services.{given, answer, filled, table, tableAnswer, tableArea, entryAnswer}
 use Rattle.tables.specs.RowMajor as working
 use Rattle.steps.proofs.TableLaws.{length-rows, rows-same, place-of-rows}
 use Rattle.shape.proofs.ShapeQuestions.{entry-input-passed}
 use Rattle.accuracy.proofs.Rule.{accurate-table}
-use Rattle.steps.proofs.QuestionLaws.{never-both, then-first}
+use Rattle.steps.proofs.QuestionLaws.{never-both, reading-passed}
 use Rattle.rates_accuracy.proofs.Input.{table-numbers, entry-numbers}
 use Rattle.answers.specs.declared.Filled.the-variants as given-table
 use Rattle.answers.specs.declared.Entry.the-variants as given-entry
@@ -37,88 +38,88 @@ accurate-same {n} {E} {on} y e a =
       within = λ i j hi hj. subst (λ z. Within E z (extended on (a .X) i j)) (e i j hi hj) (a .within i j hi hj);
     }
 
-module _ (reading n : ℕ) (sheet : List Float) where
+module _ (reading n : ℕ) (e : ℤ) (sheet : List Float) where
   -- The whole table: a refusal, in range or not, and the table.
   module _ (before : List Float) where
-    refused-with : {number row column : ℕ} → tableQuestions reading n sheet (length before) ≡ refuse number row column
-        → TableDone reading n sheet before before (given-table.Refused number row column)
+    refused-with : {number row column : ℕ} → tableQuestions reading n e sheet (length before) ≡ refuse number row column
+        → TableDone reading n e sheet before before (given-table.Refused number row column)
     unfolding tableAnswer tableArea
-    refused-with e =
+    refused-with is =
         record {
-          answered = ap (λ q. answer q (allowance reading n)) (sym e);
-          area = ap (λ q. filled q (table reading n sheet) before) (sym e);
-          accurate = λ p. absurd (never-both e p);
+          answered = ap (λ q. answer q (allowance reading n)) (sym is);
+          area = ap (λ q. filled q (table reading n sheet) before) (sym is);
+          accurate = λ p. absurd (never-both is p);
         }
 
-    pub table-refused : {number row column : ℕ} → tableInput reading n sheet (length before) ≡ refuse number row column
-        → TableDone reading n sheet before before (given-table.Refused number row column)
+    pub table-refused : {number row column : ℕ} → tableInput reading n e sheet (length before) ≡ refuse number row column
+        → TableDone reading n e sheet before before (given-table.Refused number row column)
     unfolding tableQuestions
-    table-refused e = refused-with (after-refusal (question10 reading n sheet) e)
+    table-refused is = refused-with (after-refusal (question10 reading n sheet) is)
 
-    module _ (passed : tableInput reading n sheet (length before) ≡ pass) {x : List Float} {ok : Bool} (stepped : Stepped reading n sheet ok x) where
-      pub table-out-of-range : ok ≡ false → TableDone reading n sheet before before (given-table.Refused 10 0 0)
+    module _ (passed : tableInput reading n e sheet (length before) ≡ pass) {x : List Float} {ok : Bool} (stepped : Stepped reading n sheet ok x) where
+      pub table-out-of-range : ok ≡ false → TableDone reading n e sheet before before (given-table.Refused 10 0 0)
       unfolding tableQuestions
-      table-out-of-range e = refused-with (out-of-range reading n sheet passed (stepped .range) e)
+      table-out-of-range bad = refused-with (out-of-range reading n sheet passed (stepped .range) bad)
 
       table-accurate : Binary64 sheet → ok ≡ true → Accurate n (takesPart reading n sheet) (allowance reading n) (matrix reading n sheet) (entry reading n sheet)
       unfolding tableInput
-      table-accurate fit e =
+      table-accurate fit good =
           accurate-table reading n sheet fit
-          (then-first (question1 reading) (question2 n then question3 n (length sheet) then question4 (n * n) (length before) then numberQuestions reading n sheet) passed)
-          (table-numbers reading n sheet (length before) passed)
-          (holds (sym (stepped .range) ∙ e))
+          (reading-passed reading n e (length sheet) (question4 (n * n) (length before) then numberQuestions reading n sheet) passed)
+          (table-numbers reading n e sheet (length before) passed)
+          (holds (sym (stepped .range) ∙ good))
 
       pub table-given : {after : List Float} {allowed : ℕ} → Binary64 sheet → ok ≡ true
           → after ≡ rows (working.table x) n n ++ drop (n * n) before → allowed ≡ allowance reading n
-          → TableDone reading n sheet before after (given-table.Allowed allowed)
+          → TableDone reading n e sheet before after (given-table.Allowed allowed)
       unfolding tableAnswer tableArea tableQuestions table
-      table-given {after} {allowed} fit e written a =
-          let all-asked = in-range reading n sheet passed (stepped .range) e in
-          let same : after ≡ rows (entry reading n sheet) n n ++ drop (n * n) before = written ∙ ap (λ (xs : List Float). xs ++ drop (n * n) before) (rows-same (working.table x) (entry reading n sheet) n n (stepped .entries (holds e))) in
+      table-given {after} {allowed} fit good written a =
+          let all-asked = in-range reading n sheet passed (stepped .range) good in
+          let same : after ≡ rows (entry reading n sheet) n n ++ drop (n * n) before = written ∙ ap (λ (xs : List Float). xs ++ drop (n * n) before) (rows-same (working.table x) (entry reading n sheet) n n (stepped .entries (holds good))) in
           record {
             answered = ap given a ∙ ap (λ q. answer q (allowance reading n)) (sym all-asked);
             area =
                 same
                 ∙ ap (λ (k : ℕ). rows (entry reading n sheet) n n ++ drop k before) (sym (length-rows (entry reading n sheet) n n))
                 ∙ ap (λ q. filled q (rows (entry reading n sheet) n n) before) (sym all-asked);
-            accurate = λ p. accurate-same (place n after) (λ i j hi hj. sym (ap (λ (xs : List Float). place n xs i j) same ∙ place-of-rows (entry reading n sheet) n (drop (n * n) before) i j hi hj)) (table-accurate fit e);
+            accurate = λ p. accurate-same (place n after) (λ i j hi hj. sym (ap (λ (xs : List Float). place n xs i j) same ∙ place-of-rows (entry reading n sheet) n (drop (n * n) before) i j hi hj)) (table-accurate fit good);
           }
 
   -- One entry in the same three ways.
   module _ (i j : ℕ) where
-    entry-refused-with : {number row column : ℕ} → entryQuestions reading n sheet i j ≡ refuse number row column
-        → EntryDone reading n sheet i j (given-entry.Refused number row column)
+    entry-refused-with : {number row column : ℕ} → entryQuestions reading n e sheet i j ≡ refuse number row column
+        → EntryDone reading n e sheet i j (given-entry.Refused number row column)
     unfolding entryAnswer
-    entry-refused-with e =
+    entry-refused-with is =
         record {
-          answered = ap (λ q. answer q (entry reading n sheet (i - 1) (j - 1))) (sym e);
-          accurate = λ p. absurd (never-both e p);
+          answered = ap (λ q. answer q (entry reading n sheet (i - 1) (j - 1))) (sym is);
+          accurate = λ p. absurd (never-both is p);
         }
 
-    pub entry-refused : {number row column : ℕ} → entryInput reading n sheet i j ≡ refuse number row column
-        → EntryDone reading n sheet i j (given-entry.Refused number row column)
+    pub entry-refused : {number row column : ℕ} → entryInput reading n e sheet i j ≡ refuse number row column
+        → EntryDone reading n e sheet i j (given-entry.Refused number row column)
     unfolding entryQuestions
-    entry-refused e = entry-refused-with (after-refusal (question10 reading n sheet) e)
+    entry-refused is = entry-refused-with (after-refusal (question10 reading n sheet) is)
 
-    module _ (passed : entryInput reading n sheet i j ≡ pass) {x : List Float} {ok : Bool} (stepped : Stepped reading n sheet ok x) where
-      pub entry-out-of-range : ok ≡ false → EntryDone reading n sheet i j (given-entry.Refused 10 0 0)
+    module _ (passed : entryInput reading n e sheet i j ≡ pass) {x : List Float} {ok : Bool} (stepped : Stepped reading n sheet ok x) where
+      pub entry-out-of-range : ok ≡ false → EntryDone reading n e sheet i j (given-entry.Refused 10 0 0)
       unfolding entryQuestions
-      entry-out-of-range e = entry-refused-with (out-of-range reading n sheet passed (stepped .range) e)
+      entry-out-of-range bad = entry-refused-with (out-of-range reading n sheet passed (stepped .range) bad)
 
       entry-accurate : Binary64 sheet → ok ≡ true → Accurate n (takesPart reading n sheet) (allowance reading n) (matrix reading n sheet) (entry reading n sheet)
       unfolding entryInput
-      entry-accurate fit e =
+      entry-accurate fit good =
           accurate-table reading n sheet fit
-          (then-first (question1 reading) (question2 n then question3 n (length sheet) then question5 n i j then numberQuestions reading n sheet) passed)
-          (entry-numbers reading n sheet i j passed)
-          (holds (sym (stepped .range) ∙ e))
+          (reading-passed reading n e (length sheet) (question5 n i j then numberQuestions reading n sheet) passed)
+          (entry-numbers reading n e sheet i j passed)
+          (holds (sym (stepped .range) ∙ good))
 
-      pub entry-given : {value : Float} → Binary64 sheet → ok ≡ true → value ≡ working.table x (i - 1) (j - 1) → EntryDone reading n sheet i j (given-entry.Seconds value)
+      pub entry-given : {value : Float} → Binary64 sheet → ok ≡ true → value ≡ working.table x (i - 1) (j - 1) → EntryDone reading n e sheet i j (given-entry.Seconds value)
       unfolding entryAnswer entryQuestions
-      entry-given fit e v =
-          let stages = entry-input-passed reading n sheet i j passed in
-          let seconds = v ∙ stepped .entries (holds e) (i - 1) (j - 1) (omega (arith, stages .1)) (omega (arith, stages .2)) in
+      entry-given fit good v =
+          let stages = entry-input-passed reading n e sheet i j passed in
+          let seconds = v ∙ stepped .entries (holds good) (i - 1) (j - 1) (omega (arith, stages .1)) (omega (arith, stages .2)) in
           record {
-            answered = ap given seconds ∙ ap (λ q. answer q (entry reading n sheet (i - 1) (j - 1))) (sym (in-range reading n sheet passed (stepped .range) e));
-            accurate = λ p. entry-accurate fit e;
+            answered = ap given seconds ∙ ap (λ q. answer q (entry reading n sheet (i - 1) (j - 1))) (sym (in-range reading n sheet passed (stepped .range) good));
+            accurate = λ p. entry-accurate fit good;
           }

@@ -9,9 +9,9 @@ use answers::Filled;
 use tables::row;
 
 // The whole table of a sheet that passed questions 1 to 9. Nothing is written before question 10 passes too.
-fn table_of_sheet(reading: usize, n: usize, sheet: &[f64], answer: &mut [f64]) -> Filled
-    requires { ⌜ tableInput reading n (now sheet) (length (now answer)) ≡ pass ⌝ }
-    ensures { λ r. ⌜ TableDone reading n (now (sheet .entry)) (now (answer .entry)) (now (answer .exit)) r ⌝ }
+fn table_of_sheet(reading: usize, n: usize, e: i64, sheet: &[f64], answer: &mut [f64]) -> Filled
+    requires { ⌜ tableInput reading n e (now sheet) (length (now answer)) ≡ pass ⌝ }
+    ensures { λ r. ⌜ TableDone reading n e (now (sheet .entry)) (now (answer .entry)) (now (answer .exit)) r ⌝ }
 {
     let mut x = [0.0; 1024];
     if readings::steps(reading, n, sheet, &mut x) {
@@ -28,10 +28,10 @@ fn table_of_sheet(reading: usize, n: usize, sheet: &[f64], answer: &mut [f64]) -
 }
 
 // The whole table, row by row in the first n × n places of the answer area.
-pub fn whole_table(reading: usize, n: usize, sheet: &[f64], answer: &mut [f64]) -> Filled
-    ensures { λ r. ⌜ TableDone reading n (now (sheet .entry)) (now (answer .entry)) (now (answer .exit)) r ⌝ }
+pub fn whole_table(reading: usize, n: usize, e: i64, sheet: &[f64], answer: &mut [f64]) -> Filled
+    ensures { λ r. ⌜ TableDone reading n e (now (sheet .entry)) (now (answer .entry)) (now (answer .exit)) r ⌝ }
 {
-    let asked = sheet::table_input(reading, n, sheet, answer.len());
+    let asked = sheet::table_input(reading, n, e, sheet, answer.len());
     if asked.number != 0 {
         return Filled::Refused {
             number: asked.number,
@@ -39,13 +39,13 @@ pub fn whole_table(reading: usize, n: usize, sheet: &[f64], answer: &mut [f64]) 
             column: asked.column,
         };
     }
-    table_of_sheet(reading, n, sheet, answer)
+    table_of_sheet(reading, n, e, sheet, answer)
 }
 
 // Entry (i, j), counted from 1, of a sheet that passed questions 1 to 9.
-fn entry_of_sheet(reading: usize, n: usize, sheet: &[f64], i: usize, j: usize) -> Entry
-    requires { ⌜ entryInput reading n (now sheet) i j ≡ pass ⌝ }
-    ensures { λ r. ⌜ EntryDone reading n (now (sheet .entry)) i j r ⌝ }
+fn entry_of_sheet(reading: usize, n: usize, e: i64, sheet: &[f64], i: usize, j: usize) -> Entry
+    requires { ⌜ entryInput reading n e (now sheet) i j ≡ pass ⌝ }
+    ensures { λ r. ⌜ EntryDone reading n e (now (sheet .entry)) i j r ⌝ }
 {
     let mut table = [0.0; 1024];
     if readings::steps(reading, n, sheet, &mut table) {
@@ -61,10 +61,10 @@ fn entry_of_sheet(reading: usize, n: usize, sheet: &[f64], i: usize, j: usize) -
 }
 
 // One entry: the seconds that a request entering at stage i spends at stage j, counted from 1.
-pub fn one_entry(reading: usize, n: usize, sheet: &[f64], i: usize, j: usize) -> Entry
-    ensures { λ r. ⌜ EntryDone reading n (now (sheet .entry)) i j r ⌝ }
+pub fn one_entry(reading: usize, n: usize, e: i64, sheet: &[f64], i: usize, j: usize) -> Entry
+    ensures { λ r. ⌜ EntryDone reading n e (now (sheet .entry)) i j r ⌝ }
 {
-    let asked = sheet::entry_input(reading, n, sheet, i, j);
+    let asked = sheet::entry_input(reading, n, e, sheet, i, j);
     if asked.number != 0 {
         return Entry::Refused {
             number: asked.number,
@@ -72,5 +72,5 @@ pub fn one_entry(reading: usize, n: usize, sheet: &[f64], i: usize, j: usize) ->
             column: asked.column,
         };
     }
-    entry_of_sheet(reading, n, sheet, i, j)
+    entry_of_sheet(reading, n, e, sheet, i, j)
 }

@@ -14,7 +14,8 @@ use lib.Ieee.Fits.{and-i, and-l}
 use borrow.Author.Tests.{lt-ltb, le-ltb}
 use lib.Ieee.{Float, fin, binary64, fits, ofBits}
 use Rattle.definitions.specs.Numbers.{_⊗_, _⊘_, 1·0, finite}
-use Rattle.definitions.specs.Moving.{timesPower, exponentInRange}
+use Rattle.definitions.specs.Questions.{exponentInRange}
+use Rattle.definitions.specs.Moving.{timesPower}
 use Rattle.rounding.specs.Scaling.{power}
 use Rattle.rounding.proofs.Words.{one-word}
 use Rattle.rounding.proofs.TimesPower.{product-with-power, quotient-by-power, held-between}

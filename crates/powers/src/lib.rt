@@ -3,7 +3,7 @@ ghost use Prim.Native.Nat.{_≤_};
 ghost use mathlib.Core.Path.{_≡_};
 ghost use lib.Dec.{T};
 ghost use lib.IntN.{pos, _+ℤ_};
-ghost use Rattle.definitions.specs.Moving.{exponentInRange};
+ghost use Rattle.definitions.specs.Questions.{exponentInRange};
 ghost use Rattle.rounding.specs.Scaling.{power};
 
 // 1 doubled so many times.

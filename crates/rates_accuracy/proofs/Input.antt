@@ -7,6 +7,7 @@ use mathlib.Core.Path.{_≡_, refl}
 use mathlib.Core.Logic.{_≢_}
 use native.Mathlib.Omega.{arith}
 use lib.Dec.{T, eqb, ltb, lt→ltb, ltb→lt}
+use lib.IntN.{ℤ}
 use lib.ListN.{length}
 use lib.Ieee.{Float, nan, inf, fin, binary64, fits, lt, le, eq}
 use borrow.Author.Tests.{eq-eqb, ne-eqb}
@@ -16,7 +17,7 @@ use Rattle.exact.proofs.Bools.{or-l}
 use Rattle.definitions.specs.Numbers.{0·0, finite, isZero, units}
 use Rattle.definitions.specs.Sheet.{place, size, diagonal}
 use Rattle.definitions.specs.Accuracy.{Binary64}
-use Rattle.definitions.specs.Questions.{Asked, pass, _then_, question1, question2, question3, question4, question5, rightSign, moves, leaves, question9, placeQuestions, numberQuestions, tableInput, entryInput}
+use Rattle.definitions.specs.Questions.{Asked, pass, _then_, sizeQuestions, shapeQuestions, question4, question5, rightSign, moves, leaves, question9, placeQuestions, numberQuestions, tableInput, entryInput}
 use Rattle.definitions.specs.Column.{columnReading, columnShape, columnInput}
 use Rattle.rounding.specs.Good.{Good}
 use Rattle.rounding.proofs.Laws.{zero-is-good, units-zero, is-zero}
@@ -27,33 +28,31 @@ use Rattle.steps.proofs.Sizes.{size-at, diagonal-at}
 use Rattle.steps.proofs.QuestionLaws.{then-first, then-next, one-stage, number-finite, number-sign}
 
 -- The questions of the numbers come last, whichever service asks.
-after-four : (a b c d x : Asked) → (a then b then c then d then x) ≡ pass → x ≡ pass
-after-four a b c d x e =
-    then-next d x (then-next c (d then x) (then-next b (c then d then x) (then-next a (b then c then d then x) e)))
+after-two : (a b x : Asked) → (a then b then x) ≡ pass → x ≡ pass
+after-two a b x e = then-next b x (then-next a (b then x) e)
 
 pub table-numbers :
-    (reading n : ℕ) (sheet : List Float) (room : ℕ) → tableInput reading n sheet room ≡ pass → numberQuestions reading n sheet ≡ pass
+    (reading n : ℕ) (e : ℤ) (sheet : List Float) (room : ℕ) → tableInput reading n e sheet room ≡ pass → numberQuestions reading n sheet ≡ pass
 unfolding tableInput
-table-numbers reading n sheet room =
-    after-four (question1 reading) (question2 n) (question3 n (length sheet)) (question4 (n * n) room) (numberQuestions reading n sheet)
+table-numbers reading n e sheet room = after-two (shapeQuestions reading n e (length sheet)) (question4 (n * n) room) (numberQuestions reading n sheet)
 
 pub entry-numbers :
-    (reading n : ℕ) (sheet : List Float) (i j : ℕ) → entryInput reading n sheet i j ≡ pass → numberQuestions reading n sheet ≡ pass
+    (reading n : ℕ) (e : ℤ) (sheet : List Float) (i j : ℕ) → entryInput reading n e sheet i j ≡ pass → numberQuestions reading n sheet ≡ pass
 unfolding entryInput
-entry-numbers reading n sheet i j =
-    after-four (question1 reading) (question2 n) (question3 n (length sheet)) (question5 n i j) (numberQuestions reading n sheet)
+entry-numbers reading n e sheet i j = after-two (shapeQuestions reading n e (length sheet)) (question5 n i j) (numberQuestions reading n sheet)
 
 pub column-numbers :
-    (reading n : ℕ) (sheet : List Float) (room stage : ℕ) → columnInput reading n sheet room stage ≡ pass → numberQuestions 1 n sheet ≡ pass
+    (reading n : ℕ) (e : ℤ) (sheet : List Float) (room stage : ℕ) → columnInput reading n e sheet room stage ≡ pass → numberQuestions 1 n sheet ≡ pass
 unfolding columnInput
-column-numbers reading n sheet room stage = then-next (columnShape reading n (length sheet) room stage) (numberQuestions 1 n sheet)
+column-numbers reading n e sheet room stage = then-next (columnShape reading n e (length sheet) room stage) (numberQuestions 1 n sheet)
 
-pub column-stage : (reading n : ℕ) (sheet : List Float) (room stage : ℕ) → columnInput reading n sheet room stage ≡ pass → stage - 1 < n
+pub column-stage : (reading n : ℕ) (e : ℤ) (sheet : List Float) (room stage : ℕ) → columnInput reading n e sheet room stage ≡ pass → stage - 1 < n
 unfolding columnInput columnShape
-column-stage reading n sheet room stage e =
+column-stage reading n e sheet room stage q =
     let five =
-    after-four (columnReading reading) (question2 n) (question3 n (length sheet)) (question4 n room) (question5 n stage stage)
-    (then-first (columnShape reading n (length sheet) room stage) (numberQuestions 1 n sheet) e) in
+    then-next (question4 n room) (question5 n stage stage)
+    (after-two (columnReading reading) (sizeQuestions n e (length sheet)) (question4 n room then question5 n stage stage)
+    (then-first (columnShape reading n e (length sheet) room stage) (numberQuestions 1 n sheet) q)) in
     let stages = one-stage n stage five in
     omega arith
 

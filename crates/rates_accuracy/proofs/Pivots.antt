@@ -63,6 +63,6 @@ no-pivot-is-zero-in-systems r start g o k h t =
 -- The stages of a sheet that passes the questions, without the idle ones, are such a system.
 pub no-pivot-is-zero : NoPivotIsZero
 unfolding NoPivotIsZero NoPivotIsZeroInSystems liveCount liveBegun
-no-pivot-is-zero n sheet fit e =
-    let numbers = table-numbers 1 n sheet (n * n) e in
+no-pivot-is-zero n e sheet fit input =
+    let numbers = table-numbers 1 n e sheet (n * n) input in
     no-pivot-is-zero-in-systems (liveCount n sheet) (liveSystem n sheet) (live-good n sheet fit numbers) (live-out n sheet fit numbers)

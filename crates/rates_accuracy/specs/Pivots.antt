@@ -4,6 +4,7 @@ use mathlib.Core.Bool.{not}
 use mathlib.Core.List.{List}
 use mathlib.Core.Path.{_≡_}
 use lib.Dec.{T}
+use lib.IntN.{ℤ}
 use lib.Ieee.{Float}
 use Rattle.definitions.specs.Numbers.{isZero}
 use Rattle.definitions.specs.LeavingRates.{System, downward, pivotInRange, p, sharedBefore}
@@ -27,6 +28,6 @@ NoPivotIsZeroInSystems =
 -- Theorem, for the system that goes through the steps of a sheet that passes questions 1 to 9 under reading 1.
 unfoldable pub NoPivotIsZero : Type 0
 NoPivotIsZero =
-    (n : ℕ) (sheet : List Float) → Binary64 sheet → tableInput 1 n sheet (n * n) ≡ pass
+    (n : ℕ) (e : ℤ) (sheet : List Float) → Binary64 sheet → tableInput 1 n e sheet (n * n) ≡ pass
     → (k : ℕ) → k < liveCount n sheet → T (sharedBefore (liveCount n sheet) (liveBegun n sheet) k)
     → PivotHolds (liveCount n sheet) (liveBegun n sheet) k

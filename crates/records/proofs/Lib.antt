@@ -1,3 +1,4 @@
 pub mod Little
 pub mod Records
+pub mod Signed
 pub mod LittleBytes

@@ -2,9 +2,11 @@
 // all little-endian.
 ghost use mathlib.Core.Path.{_≡_};
 ghost use mathlib.Core.List.{_++_};
-ghost use Prim.Native.Nat.{_+_, _≤_};
+ghost use Prim.Native.Nat.{_+_, _≤_, _<_};
 ghost use lib.ListN.{length, drop};
-ghost use Rattle.definitions.specs.File.{little, wholeRecord};
+ghost use lib.Signed.{mag};
+ghost use Rattle.definitions.specs.File.{little, signed, wholeRecord};
+ghost use Rattle.definitions.specs.Saving as saving;
 ghost use Rattle.definitions.specs.Saving.{littleBytes};
 ghost use Rattle.buffer.specs.Pasted.{Room, Written};
 
@@ -28,6 +30,29 @@ pub fn field_at(bytes: &[u8], at: usize, width: usize) -> usize
     ensures { λ r. ⌜ r ≡ little width (drop at (now (bytes .entry))) ⌝ }
 {
     number_at(bytes, at, width) as usize
+}
+
+// The signed number in the two bytes from `at` on, in two's complement.
+pub fn signed_at(bytes: &[u8], at: usize) -> i64
+    requires { ⌜ at + 2 ≤ length (now bytes) ⌝ }
+    ensures { λ r. ⌜ r ≡ signed (little 2 (drop at (now (bytes .entry)))) ⌝ }
+{
+    let word = field_at(bytes, at, 2);
+    if word < 32768 {
+        return word as i64;
+    }
+    word as i64 - 65536
+}
+
+// The two bytes of a signed number, as the number that `put_number` writes.
+pub fn complement(number: i64) -> u64
+    requires { ⌜ mag number < 32768 ⌝ }
+    ensures { λ r. ⌜ r ≡ saving.complement number ⌝ }
+{
+    if number < 0 {
+        return (65536 + number) as u64;
+    }
+    number as u64
 }
 
 // Question 11, of the record that starts at `at`.

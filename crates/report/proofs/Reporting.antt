@@ -8,6 +8,7 @@ use mathlib.Core.Bool.{cond}
 use mathlib.Core.List.{List, _++_}
 use borrow.Author.Tests.{ltb-true, ltb-false}
 use lib.Dec.{ltb}
+use lib.IntN.{ℤ}
 use lib.ListN.{length, take, drop}
 use lib.Seq.{take-at, take-all, take-length, length-take-le}
 use lib.Ieee.{Float}
@@ -43,10 +44,10 @@ pub same-report : {s t before after : List ℕ} {count : ℕ} → s ≡ t → Re
 same-report e w = rw e at w
 
 -- The text for what the whole table's service answers, and for the area that it leaves.
-pub served-text : (reading n : ℕ) (sheet before after : List Float) → length before ≡ 1024 → {r : Filled} → TableDone reading n sheet before after r
-    → answerText n after (filledGiven r) ≡ tableText reading n sheet (tableAnswer reading n sheet 1024)
-served-text reading n sheet before after room done =
-    rw (done .area, done .answered) (text-of-answer reading n sheet before _ refl ∙ rw room)
+pub served-text : (reading n : ℕ) (e : ℤ) (sheet before after : List Float) → length before ≡ 1024 → {r : Filled} → TableDone reading n e sheet before after r
+    → answerText n e after (filledGiven r) ≡ tableText reading n e sheet (tableAnswer reading n e sheet 1024)
+served-text reading n e sheet before after room done =
+    rw (done .area, done .answered) (text-of-answer reading n e sheet before _ refl ∙ rw room)
 
 -- A file is read into the start of an area, and the sheet's numbers are those of the file.
 passed : {A : Type 0} (asked : Asked) (value due : A) → answer asked value ≡ given due → asked ≡ pass
@@ -60,14 +61,14 @@ few n h = elim (decLe n 32) [
 ]
 
 module _ (bytes : List ℕ) (before after : List Float) (room : length before ≡ 1024) {r : Loaded} (answered : headGiven r ≡ fileAnswer bytes (length before))
-    (area : after ≡ fileNumberArea bytes before) {reading n : ℕ} (sheet : r ≡ file.Sheet reading n) where
+    (area : after ≡ fileNumberArea bytes before) {reading n : ℕ} {e : ℤ} (sheet : r ≡ file.Sheet reading n e) where
   pub places : n * n ≤ 1024
   places = rw room at (to-fill bytes (length before) answered sheet .1)
 
   pub stages : n ≤ 32
   stages = few n places
 
-  is-given : fileAnswer bytes (length before) ≡ given (record { reading = reading; n = n })
+  is-given : fileAnswer bytes (length before) ≡ given (record { reading = reading; n = n; e = e })
   is-given = sym (rw sheet at answered)
 
   starts : after ≡ fileNumbers bytes ++ drop (length (fileNumbers bytes)) before
@@ -77,7 +78,7 @@ module _ (bytes : List ℕ) (before after : List Float) (room : length before �
   numbers : take (n * n) after ≡ fileNumbers bytes
   numbers = rw starts (take-at (fileNumbers bytes) _ (n * n) (file-numbers-length bytes n (sheet-file bytes (length before) answered sheet)))
 
-  pub sheet-text : tableText reading n (take (n * n) after) (tableAnswer reading n (take (n * n) after) 1024) ≡ fileText bytes (fileAnswer bytes 1024)
+  pub sheet-text : tableText reading n e (take (n * n) after) (tableAnswer reading n e (take (n * n) after) 1024) ≡ fileText bytes (fileAnswer bytes 1024)
   unfolding fileText
   sheet-text = rw (numbers, ← room, is-given, room)
 

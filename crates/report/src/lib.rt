@@ -9,13 +9,13 @@ ghost use Rattle.report.specs.Reported.{Reported};
 use answers::Loaded;
 
 // The text for a sheet: its table is made in an area of its own.
-fn table_text(reading: usize, n: usize, sheet: &[f64], out: &mut [u8]) -> usize
+fn table_text(reading: usize, n: usize, e: i64, sheet: &[f64], out: &mut [u8]) -> usize
     requires { ⌜ (n ≤ 32) × (32768 ≤ length (now out)) ⌝ }
-    ensures { λ r. let sheet = now (sheet .entry) in ⌜ AtStart (tableText reading n sheet (tableAnswer reading n sheet 1024)) (now (out .entry)) (now (out .exit)) r ⌝ }
+    ensures { λ r. let sheet = now (sheet .entry) in ⌜ AtStart (tableText reading n e sheet (tableAnswer reading n e sheet 1024)) (now (out .entry)) (now (out .exit)) r ⌝ }
 {
     let mut area = [0.0f64; 1024];
-    let table = planner::whole_table(reading, n, sheet, &mut area);
-    text::answer_text(table, n, &area, out)
+    let table = planner::whole_table(reading, n, e, sheet, &mut area);
+    text::answer_text(table, n, e, &area, out)
 }
 
 // The text for the bytes of a file, at the start of `out`; later bytes stay as they were. Returns
@@ -27,9 +27,9 @@ pub fn answer(bytes: &[u8], out: &mut [u8]) -> usize
     let mut area = [0.0f64; 1024];
     let loaded = file::read_numbers(bytes, &mut area);
     match loaded {
-        Loaded::Sheet { reading, n } => {
+        Loaded::Sheet { reading, n, e } => {
             let places = n * n;
-            table_text(reading, n, &area[..places], out)
+            table_text(reading, n, e, &area[..places], out)
         }
         Loaded::Refused {
             number,

@@ -1,18 +1,23 @@
 -- Reading the file of a sheet: it is accepted, and what is read are the sheet's words.
 use Prim.Native.Nat.{ℕ, zero, suc, _+_, _*_, _^_, _≤_, _<_}
 use mathlib.Core.Bool.{true, _||_}
-use mathlib.Core.List.{List, [], _∷_, _++_, append-nil}
+use mathlib.Core.List.{List, [], _∷_, _++_, append-assoc, append-nil}
 use mathlib.Core.Path.{_≡_, refl, sym, ap, ap₂, _∙_}
 use native.Mathlib.Nat.{suc-mul, zero-mul}
 use native.Mathlib.Omega.{arith}
 use borrow.Author.Tests.{eq-eqb, le-leb}
-use lib.Dec.{eqb}
+use lib.Dec.{T, eqb}
+use lib.IntN.{ℤ}
+use lib.Signed.{mag}
 use lib.ListN.{length, take, drop, length-append, length-drop}
-use lib.Seq.{drop-at, take-add, take-all, length-take-le}
-use Rattle.definitions.specs.Questions.{pass, question1, question2, question4}
-use Rattle.definitions.specs.File.{little, recordLength, recordKind, payload, rest, wholeRecord, headReading, headStages, goodHead, goodRow, rowQuestions, fileQuestions, words, rowWords, fileWords}
-use Rattle.definitions.specs.Saving.{littleBytes, headBytes, wordBytes, rowBytes, rowsBytes, sheetFile}
+use lib.Seq.{drop-at, drop-drop, take-add, take-all, length-take-le}
+use lib.Ieee.Bits.{is-true}
+use Rattle.definitions.specs.Questions.{pass, exponentInRange, question1, question2, question4}
+use Rattle.definitions.specs.File.{little, recordLength, recordKind, payload, rest, wholeRecord, headLength, oldHeadLength, headReading, headStages, headUnit, knownHead, goodHead, goodRow, rowQuestions, fileQuestions, words, rowWords, fileWords}
+use Rattle.definitions.specs.Saving.{littleBytes, complement, headBytes, wordBytes, rowBytes, rowsBytes, sheetFile}
 use Rattle.records.proofs.LittleBytes.{length-little}
+use Rattle.records.proofs.Signed.{signed-complement, complement-small}
+use Rattle.steps.proofs.QuestionLaws.{exponent-small}
 use Rattle.saving.proofs.FileBytes.{length-words}
 use Rattle.round_trip.specs.RoundTrip.{Below}
 use Rattle.round_trip.proofs.Bytes.{below-first, below-rest, below-drop, below-take, number-back}
@@ -104,14 +109,14 @@ module _ (n : ℕ) (few : n ≤ 32) where
       (sym (take-add n (m * n) list))
 
 -- The head, with more bytes behind it.
-module _ (reading n : ℕ) (later : List ℕ) (narrow : reading < 256 ^ 2) (few : n < 256 ^ 2) where
+module _ (reading n : ℕ) (e : ℤ) (later : List ℕ) (narrow : reading < 256 ^ 2) (few : n < 256 ^ 2) (unit : T (exponentInRange e)) where
   head-content : List ℕ
-  head-content = littleBytes 2 reading ++ littleBytes 2 n
+  head-content = littleBytes 2 reading ++ littleBytes 2 n ++ littleBytes 2 (complement e)
 
   abbrev head-and-rows : List ℕ
-  head-and-rows = headBytes reading n ++ later
+  head-and-rows = headBytes reading n e ++ later
 
-  length-head-content : length head-content ≡ 4
+  length-head-content : length head-content ≡ 6
   unfolding head-content
   length-head-content = simp (length-append, length-little)
 
@@ -134,55 +139,78 @@ module _ (reading n : ℕ) (later : List ℕ) (narrow : reading < 256 ^ 2) (few 
   unfolding headBytes head-content
   head-kind = kind-back 1 head-content later (omega arith) head-short
 
-  head-length : recordLength head-and-rows ≡ 4
+  head-length : recordLength head-and-rows ≡ 6
   unfolding headBytes head-content
   head-length = length-back 1 head-content later (omega arith) head-short ∙ length-head-content
 
+  -- The payload's three numbers, one behind the other.
+  in-order : head-content ≡ littleBytes 2 reading ++ (littleBytes 2 n ++ littleBytes 2 (complement e))
+  unfolding head-content
+  in-order = append-assoc (littleBytes 2 reading) (littleBytes 2 n) (littleBytes 2 (complement e))
+
+  after-reading : drop 2 head-content ≡ littleBytes 2 n ++ littleBytes 2 (complement e)
+  after-reading = rw in-order (drop-at (littleBytes 2 reading) _ 2 (length-little 2 reading))
+
+  after-stages : drop 4 head-content ≡ littleBytes 2 (complement e)
+  after-stages = sym (drop-drop 2 2 head-content) ∙ rw after-reading (drop-at (littleBytes 2 n) _ 2 (length-little 2 n))
+
   pub head-reading : headReading head-and-rows ≡ reading
-  unfolding headReading head-content
-  head-reading = rw head-payload (number-back 2 reading (littleBytes 2 n) narrow)
+  unfolding headReading
+  head-reading = rw (head-payload, in-order) (number-back 2 reading (littleBytes 2 n ++ littleBytes 2 (complement e)) narrow)
 
   pub head-stages : headStages head-and-rows ≡ n
-  unfolding headStages head-content
-  head-stages =
-      rw (head-payload, drop-at (littleBytes 2 reading) (littleBytes 2 n) 2 (length-little 2 reading))
-      (ap (little 2) (sym (append-nil (littleBytes 2 n))) ∙ number-back 2 n [] few)
+  unfolding headStages
+  head-stages = rw (head-payload, after-reading) (number-back 2 n (littleBytes 2 (complement e)) few)
+
+  small : mag e < 32768
+  small = omega (arith, exponent-small e unit)
+
+  pub head-unit : headUnit head-and-rows ≡ e
+  unfolding headUnit oldHeadLength
+  head-unit =
+      let word : little 2 (littleBytes 2 (complement e)) ≡ complement e =
+      ap (little 2) (sym (append-nil (littleBytes 2 (complement e)))) ∙ number-back 2 (complement e) [] (complement-small e small) in
+      rw (head-length, head-payload, after-stages, word) (signed-complement e small)
 
   pub head-good : (eqb reading 1 || eqb reading 2) ≡ true → 1 ≤ n → n ≤ 32 → goodHead head-and-rows ≡ true
-  unfolding goodHead
+  unfolding goodHead knownHead headLength oldHeadLength
   head-good known least most =
-      rw (eq-eqb (recordKind head-and-rows) 1 head-kind, eq-eqb (recordLength head-and-rows) 4 head-length, head-reading, head-stages, known, le-leb 1 n least, le-leb n 32 most)
+      rw (eq-eqb (recordKind head-and-rows) 1 head-kind, head-length, head-reading, head-stages, head-unit, known, le-leb 1 n least, le-leb n 32 most, is-true (exponentInRange e) unit)
 
 -- The file of a sheet for which the questions of saving pass.
-module _ (reading n room : ℕ) (list : List ℕ) (known : (eqb reading 1 || eqb reading 2) ≡ true) (narrow : reading < 256 ^ 2) (least : 1 ≤ n) (most : n ≤ 32) (held : length list ≡ n * n) (enough : n * n ≤ room) where
+module _ (reading n : ℕ) (e : ℤ) (room : ℕ) (list : List ℕ) (known : (eqb reading 1 || eqb reading 2) ≡ true) (narrow : reading < 256 ^ 2) (least : 1 ≤ n) (most : n ≤ 32) (held : length list ≡ n * n) (enough : n * n ≤ room) (unit : T (exponentInRange e)) where
   rows : List ℕ
   rows = rowsBytes n 1 n list
 
   abbrev file : List ℕ
-  file = sheetFile reading n list
+  file = sheetFile reading n e list
 
   few : n < 256 ^ 2
   few = omega arith
 
   pub file-reading : headReading file ≡ reading
   unfolding sheetFile rows
-  file-reading = head-reading reading n rows narrow few
+  file-reading = head-reading reading n e rows narrow few unit
 
   pub file-stages : headStages file ≡ n
   unfolding sheetFile rows
-  file-stages = head-stages reading n rows narrow few
+  file-stages = head-stages reading n e rows narrow few unit
+
+  pub file-unit : headUnit file ≡ e
+  unfolding sheetFile rows
+  file-unit = head-unit reading n e rows narrow few unit
 
   file-rest : rest file ≡ rows
   unfolding sheetFile rows
-  file-rest = head-rest reading n rows narrow few
+  file-rest = head-rest reading n e rows narrow few unit
 
   file-whole : wholeRecord file ≡ true
   unfolding sheetFile rows
-  file-whole = head-whole reading n rows narrow few
+  file-whole = head-whole reading n e rows narrow few unit
 
   file-good : goodHead file ≡ true
   unfolding sheetFile rows
-  file-good = head-good reading n rows narrow few known least most
+  file-good = head-good reading n e rows narrow few unit known least most
 
   file-rows : rowQuestions n 1 n rows ≡ pass
   unfolding rows

@@ -77,7 +77,7 @@ module _ (bytes : List ℕ) (low : Below 256 bytes) (whole : wholeRecord bytes �
   unfolding recordLength
   length-bytes-back = bytes-back 4 bytes low (omega (arith, room))
 
-  kind-bytes-back : littleBytes 2 (recordKind bytes) ≡ take 2 (drop 4 bytes)
+  pub kind-bytes-back : littleBytes 2 (recordKind bytes) ≡ take 2 (drop 4 bytes)
   unfolding recordKind
   kind-bytes-back = bytes-back 2 (drop 4 bytes) (below-drop 4 bytes low) (rw length-drop (omega (arith, room)))
 

@@ -6,39 +6,41 @@ use mathlib.Core.Logic.{⊎-elim}
 use mathlib.Core.Path.{_≡_, refl, sym, ap, _∙_}
 use native.Mathlib.Omega.{arith}
 use borrow.Author.Tests.{eq-eqb, le-leb}
-use lib.Dec.{leb, eqb, eqb→eq, leb→le}
+use lib.Dec.{T, leb, eqb, eqb→eq, leb→le}
+use lib.IntN.{ℤ}
 use lib.ListN.{length, take, length-map}
 use lib.Seq.{take-at}
 use lib.Ieee.{binary64, ofBits}
 use lib.Ieee.Bits.{is-true}
 use lib.Ieee.Fits.{and-l}
 use Rattle.exact.proofs.Bools.{or-cases}
-use Rattle.definitions.specs.Questions.{pass, _then_, question1, question2, question3, question4}
+use Rattle.definitions.specs.Questions.{pass, _then_, exponentInRange, question1, question2, question12, question3, sizeQuestions, shapeQuestions, question4}
 use Rattle.definitions.specs.Services.{given}
-use Rattle.definitions.specs.File.{Head, headReading, headStages, fileLength, fileQuestions, fileAnswer, fileWords, fileNumbers}
+use Rattle.definitions.specs.File.{Head, headReading, headStages, headUnit, fileLength, fileQuestions, headOf, fileAnswer, fileWords, fileNumbers}
 use Rattle.definitions.specs.Saving.{sheetFile, saveQuestions, saveAnswer, sheetWords, savedWords, savedNumbers}
-use Rattle.steps.proofs.QuestionLaws.{then-first, then-next, ask-yes, given-passes, given-is}
+use Rattle.steps.proofs.QuestionLaws.{then-first, then-next, ask-yes, reading-passed, given-passes, given-is}
 use Rattle.shape.proofs.ShapeQuestions.{save-passed}
 use Rattle.payload.specs.SheetFile.{SheetFile}
 use Rattle.payload.proofs.FileWords.{file-passed, file-words-length}
 use Rattle.saving.proofs.FileBytes.{length-file}
 use Rattle.saving.proofs.SheetWords.{length-sheet-words}
-use Rattle.round_trip.specs.RoundTrip.{Below, LoadsWhatWasSaved, LoadsNumbersThatWereSaved, SavesWhatWasLoaded, SavesNumbersThatWereLoaded}
-use Rattle.round_trip.proofs.Loading.{file-reading, file-stages, file-passes, file-words}
+use Rattle.round_trip.specs.RoundTrip.{Below, withUnit, LoadsWhatWasSaved, LoadsNumbersThatWereSaved, SavesWhatWasLoaded, SavesNumbersThatWereLoaded}
+use Rattle.round_trip.proofs.Loading.{file-reading, file-stages, file-unit, file-passes, file-words}
 use Rattle.round_trip.proofs.SavingAgain.{file-again, file-words-below}
 use Rattle.round_trip.proofs.NumberWords.{words-below, numbers-back, words-kept}
 
--- What the first two questions say where they pass.
-module _ (reading n held room : ℕ) (passes : saveQuestions reading n held room ≡ pass) where
+-- What the questions of the reading and of the stages say where they pass.
+module _ (reading n : ℕ) (e : ℤ) (held room : ℕ) (passes : saveQuestions reading n e held room ≡ pass) where
   first : question1 reading ≡ pass
   unfolding saveQuestions
-  first = then-first (question1 reading) (question2 n then question3 n held then question4 (fileLength n) room) passes
+  first = reading-passed reading n e held (question4 (fileLength n) room) passes
 
   second : question2 n ≡ pass
-  unfolding saveQuestions
+  unfolding saveQuestions shapeQuestions sizeQuestions
   second =
-      then-first (question2 n) (question3 n held then question4 (fileLength n) room)
-      (then-next (question1 reading) (question2 n then question3 n held then question4 (fileLength n) room) passes)
+      let size = question2 n then question12 e then question3 n held in
+      then-first (question2 n) (question12 e then question3 n held)
+      (then-next (question1 reading) size (then-first (question1 reading then size) (question4 (fileLength n) room) passes))
 
   known : (eqb reading 1 || eqb reading 2) ≡ true
   unfolding question1
@@ -55,99 +57,102 @@ module _ (reading n held room : ℕ) (passes : saveQuestions reading n held room
   least = leb→le 1 n (and-l (leb 1 n) (leb n 32) (ask-yes (leb 1 n && leb n 32) 2 0 0 second))
 
 -- A sheet that is saved: the first bytes of the area are its file.
-module _ (reading n : ℕ) (words area : List ℕ) {size : ℕ} (saves : saveAnswer reading n (length words) (length area) ≡ given size) where
-  passes : saveQuestions reading n (length words) (length area) ≡ pass
+module _ (reading n : ℕ) (e : ℤ) (words area : List ℕ) {size : ℕ} (saves : saveAnswer reading n e (length words) (length area) ≡ given size) where
+  passes : saveQuestions reading n e (length words) (length area) ≡ pass
   unfolding saveAnswer
-  passes = given-passes (saveQuestions reading n (length words) (length area)) size (fileLength n) (sym saves)
+  passes = given-passes (saveQuestions reading n e (length words) (length area)) size (fileLength n) (sym saves)
 
   handed : size ≡ fileLength n
   unfolding saveAnswer
-  handed = given-is (saveQuestions reading n (length words) (length area)) size (fileLength n) (sym saves)
+  handed = given-is (saveQuestions reading n e (length words) (length area)) size (fileLength n) (sym saves)
 
   held : length words ≡ n * n
-  held = save-passed reading n (length words) (length area) passes .1
+  held = save-passed reading n e (length words) (length area) passes .1
 
-  file-saved : take size (savedWords reading n words area) ≡ sheetFile reading n words
+  file-saved : take size (savedWords reading n e words area) ≡ sheetFile reading n e words
   unfolding savedWords
-  file-saved = rw passes (take-at (sheetFile reading n words) _ size (length-file reading n words held ∙ sym handed))
+  file-saved = rw passes (take-at (sheetFile reading n e words) _ size (length-file reading n e words held ∙ sym handed))
 
   module _ (room : ℕ) (enough : n * n ≤ room) where
     abbrev file : List ℕ
-    file = take size (savedWords reading n words area)
+    file = take size (savedWords reading n e words area)
 
     few : n ≤ 32
-    few = save-passed reading n (length words) (length area) passes .0
+    few = save-passed reading n e (length words) (length area) passes .0
 
-    answers-back : fileAnswer file room ≡ given (record { reading = reading; n = n })
-    unfolding fileAnswer
+    unit : T (exponentInRange e)
+    unit = save-passed reading n e (length words) (length area) passes .3
+
+    answers-back : fileAnswer file room ≡ given (record { reading = reading; n = n; e = e })
+    unfolding fileAnswer headOf
     answers-back =
-        let k = known reading n (length words) (length area) passes in
-        let s = narrow reading n (length words) (length area) passes in
-        let l = least reading n (length words) (length area) passes in
-        rw (file-saved, file-passes reading n room words k s l few held enough, file-reading reading n room words k s l few held enough, file-stages reading n room words k s l few held enough)
+        let k = known reading n e (length words) (length area) passes in
+        let s = narrow reading n e (length words) (length area) passes in
+        let l = least reading n e (length words) (length area) passes in
+        rw (file-saved, file-passes reading n e room words k s l few held enough unit, file-reading reading n e room words k s l few held enough unit, file-stages reading n e room words k s l few held enough unit, file-unit reading n e room words k s l few held enough unit)
 
     words-again : Below (2 ^ 64) words → fileWords file ≡ words
     words-again b =
-        let k = known reading n (length words) (length area) passes in
-        let s = narrow reading n (length words) (length area) passes in
-        let l = least reading n (length words) (length area) passes in
-        rw file-saved (file-words reading n room words k s l few held enough b)
+        let k = known reading n e (length words) (length area) passes in
+        let s = narrow reading n e (length words) (length area) passes in
+        let l = least reading n e (length words) (length area) passes in
+        rw file-saved (file-words reading n e room words k s l few held enough unit b)
 
 pub loads-what-was-saved : LoadsWhatWasSaved
 unfolding LoadsWhatWasSaved
-loads-what-was-saved reading n words area size room b saves enough =
-    (answers-back reading n words area saves room enough, words-again reading n words area saves room enough b)
+loads-what-was-saved reading n e words area size room b saves enough =
+    (answers-back reading n e words area saves room enough, words-again reading n e words area saves room enough b)
 
 pub loads-numbers : LoadsNumbersThatWereSaved
 unfolding LoadsNumbersThatWereSaved savedNumbers fileNumbers
-loads-numbers reading n sheet area size room b saves enough =
+loads-numbers reading n e sheet area size room b saves enough =
     let words = sheetWords sheet in
-    let saved : saveAnswer reading n (length words) (length area) ≡ given size = rw (length-sheet-words sheet) saves in (
-      answers-back reading n words area saved room enough,
-      rw (words-again reading n words area saved room enough (words-below sheet b)) (numbers-back sheet b),
+    let saved : saveAnswer reading n e (length words) (length area) ≡ given size = rw (length-sheet-words sheet) saves in (
+      answers-back reading n e words area saved room enough,
+      rw (words-again reading n e words area saved room enough (words-below sheet b)) (numbers-back sheet b),
     )
 
 -- A file that is loaded: its words are saved as its bytes.
-module _ (bytes area : List ℕ) (head : Head) (room : ℕ) (b : Below 256 bytes) (loads : fileAnswer bytes room ≡ given head) (fits : length bytes ≤ length area) where
+module _ (bytes area : List ℕ) (head : Head) (room : ℕ) (b : Below 256 bytes) (loads : fileAnswer bytes room ≡ given head) (fits : length (withUnit bytes) ≤ length area) where
   abbrev reading : ℕ
   reading = headReading bytes
 
   abbrev n : ℕ
   n = headStages bytes
 
-  due : Head
-  due = record { reading = reading; n = n }
+  abbrev e : ℤ
+  e = headUnit bytes
 
-  loaded : head ≡ record { reading = reading; n = n }
-  unfolding fileAnswer due
-  loaded = given-is (fileQuestions bytes room) head due (sym loads)
+  loaded : head ≡ record { reading = reading; n = n; e = e }
+  unfolding fileAnswer headOf
+  loaded = given-is (fileQuestions bytes room) head (headOf bytes) (sym loads)
 
   sheet : SheetFile bytes n
-  unfolding fileAnswer due
-  sheet = record { room = room; passes = given-passes (fileQuestions bytes room) head due (sym loads); stages = refl }
+  unfolding fileAnswer
+  sheet = record { room = room; passes = given-passes (fileQuestions bytes room) head (headOf bytes) (sym loads); stages = refl }
 
   all-words : length (fileWords bytes) ≡ n * n
   all-words = file-words-length bytes n sheet
 
-  same-bytes : sheetFile reading n (fileWords bytes) ≡ bytes
+  same-bytes : sheetFile reading n e (fileWords bytes) ≡ withUnit bytes
   same-bytes = file-again bytes n b sheet
 
-  same-length : fileLength n ≡ length bytes
-  same-length = sym (length-file reading n (fileWords bytes) all-words) ∙ ap length same-bytes
+  same-length : fileLength n ≡ length (withUnit bytes)
+  same-length = sym (length-file reading n e (fileWords bytes) all-words) ∙ ap length same-bytes
 
-  asked : saveQuestions reading n (length (fileWords bytes)) (length area) ≡ pass
-  unfolding saveQuestions question1 question2 question3 question4
+  asked : saveQuestions reading n e (length (fileWords bytes)) (length area) ≡ pass
+  unfolding saveQuestions shapeQuestions sizeQuestions question1 question2 question12 question3 question4
   asked =
       let p = file-passed bytes n sheet in
-      rw (p .read .reading, le-leb 1 n (p .least), le-leb n 32 (p .most), eq-eqb (length (fileWords bytes)) (n * n) all-words, same-length, le-leb (length bytes) (length area) fits)
+      rw (p .read .reading, le-leb 1 n (p .least), le-leb n 32 (p .most), is-true (exponentInRange e) (p .read .unit), eq-eqb (length (fileWords bytes)) (n * n) all-words, same-length, le-leb (length (withUnit bytes)) (length area) fits)
 
-  pub saved-answer : saveAnswer (head .reading) (head .n) (length (fileWords bytes)) (length area) ≡ given (length bytes)
+  pub saved-answer : saveAnswer (head .reading) (head .n) (head .e) (length (fileWords bytes)) (length area) ≡ given (length (withUnit bytes))
   unfolding saveAnswer
   saved-answer = rw (loaded, asked, same-length)
 
-  pub saved-bytes : take (length bytes) (savedWords (head .reading) (head .n) (fileWords bytes) area) ≡ bytes
+  pub saved-bytes : take (length (withUnit bytes)) (savedWords (head .reading) (head .n) (head .e) (fileWords bytes) area) ≡ withUnit bytes
   unfolding savedWords
-  saved-bytes = rw (loaded, asked, same-bytes) (take-at bytes _ (length bytes) refl)
+  saved-bytes = rw (loaded, asked, same-bytes) (take-at (withUnit bytes) _ (length (withUnit bytes)) refl)
 
 pub saves-what-was-loaded : SavesWhatWasLoaded
 unfolding SavesWhatWasLoaded

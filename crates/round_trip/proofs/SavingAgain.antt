@@ -1,25 +1,30 @@
 -- Writing the file of what was read: the bytes that were there.
 use Prim.Native.Nat.{ℕ, zero, suc, _+_, _*_, _^_, _≤_}
 use mathlib.Core.Bool.{true}
-use mathlib.Core.List.{List, [], _∷_, _++_}
+use mathlib.Core.List.{List, [], _∷_, _++_, append-assoc}
 use mathlib.Core.Path.{_≡_, refl, sym, _∙_}
 use native.Mathlib.Omega.{arith}
-use borrow.Author.Tests.{eqb-true}
+use borrow.Author.Tests.{eqb-true, eq-eqb, ne-eqb}
 use lib.Dec.{eqb, lit<}
-use lib.ListN.{length, take, drop, length-drop, take-append-drop}
-use lib.Seq.{take-at, drop-at, take-add, take-all}
+use lib.IntN.{pos}
+use lib.ListN.{length, take, drop, length-append, length-drop, take-append-drop}
+use lib.Seq.{take-at, drop-at, drop-drop, take-add, take-all}
 use lib.Ieee.Bits.{is-true}
 use Rattle.definitions.specs.Questions.{pass}
-use Rattle.definitions.specs.File.{little, recordLength, payload, rest, wholeRecord, headReading, headStages, rowQuestions, words, rowWords, fileWords}
-use Rattle.definitions.specs.Saving.{littleBytes, headBytes, wordBytes, rowBytes, rowsBytes, sheetFile}
+use Rattle.definitions.specs.File.{little, recordLength, recordKind, payload, rest, wholeRecord, oldHeadLength, headReading, headStages, headUnit, rowQuestions, words, rowWords, fileWords}
+use Rattle.definitions.specs.Saving.{littleBytes, recordBytes, complement, headBytes, wordBytes, rowBytes, rowsBytes, sheetFile}
 use Rattle.steps.proofs.QuestionLaws.{ask-yes}
+use Rattle.exact.proofs.Cases.{by-equal}
 use Rattle.records.proofs.Little.{below}
+use Rattle.records.proofs.LittleBytes.{length-little}
+use Rattle.records.proofs.Signed.{complement-signed}
+use Rattle.file_questions.proofs.HeadAndRows.{at-least-four, not-four}
 use Rattle.file_questions.proofs.Judging.{Read, RowRead}
 use Rattle.payload.specs.SheetFile.{SheetFile}
 use Rattle.payload.proofs.FileWords.{words-length, row-passed, file-passed}
-use Rattle.round_trip.specs.RoundTrip.{Below}
+use Rattle.round_trip.specs.RoundTrip.{Below, withUnit}
 use Rattle.round_trip.proofs.Bytes.{bytes-back, below-drop, below-take, below-nothing, below-more, below-append, below-all}
-use Rattle.round_trip.proofs.RecordBytes.{length-payload, record-back}
+use Rattle.round_trip.proofs.RecordBytes.{length-payload, kind-bytes-back, record-back}
 
 -- The words of 8 bytes each.
 word-bytes-back : (m : ℕ) (bytes : List ℕ) → Below 256 bytes → 8 * m ≤ length bytes → wordBytes (words m bytes) ≡ take (8 * m) bytes
@@ -73,28 +78,74 @@ rows-again n due (suc m) bytes b e =
     rw (take-at list later n size, drop-at list later n size, rows-again n (suc due) m (rest bytes) (below-after bytes b) (row .later))
     (row-again n due bytes b (row .whole) (row .read))
 
--- The head.
+-- The head, of either length.
 module _ (bytes : List ℕ) (b : Below 256 bytes) (whole : wholeRecord bytes ≡ true) (read : Read bytes) where
-  four : length (payload bytes) ≡ 4
-  four = length-payload bytes b whole ∙ read .size
+  abbrev behind : List ℕ
+  behind = payload bytes
 
-  reading-bytes : littleBytes 2 (headReading bytes) ≡ take 2 (payload bytes)
+  four : 4 ≤ length behind
+  four = omega (arith, length-payload bytes b whole, at-least-four bytes (read .size))
+
+  reading-bytes : littleBytes 2 (headReading bytes) ≡ take 2 behind
   unfolding headReading
-  reading-bytes = bytes-back 2 (payload bytes) (below-payload bytes b) (omega (arith, four))
+  reading-bytes = bytes-back 2 behind (below-payload bytes b) (omega (arith, four))
 
-  stages-bytes : littleBytes 2 (headStages bytes) ≡ drop 2 (payload bytes)
+  stages-bytes : littleBytes 2 (headStages bytes) ≡ take 2 (drop 2 behind)
   unfolding headStages
-  stages-bytes =
-      let size : length (drop 2 (payload bytes)) ≡ 2 = rw length-drop (omega (arith, four)) in
-      bytes-back 2 (drop 2 (payload bytes)) (below-drop 2 (payload bytes) (below-payload bytes b)) (omega arith)
-      ∙ take-all 2 (drop 2 (payload bytes)) (omega arith)
+  stages-bytes = bytes-back 2 (drop 2 behind) (below-drop 2 behind (below-payload bytes b)) (rw length-drop (omega (arith, four)))
 
-  pub head-again : headBytes (headReading bytes) (headStages bytes) ++ rest bytes ≡ bytes
-  unfolding headBytes
-  head-again = rw (reading-bytes, stages-bytes, take-append-drop 2 (payload bytes), ← read .kind) (record-back bytes b whole)
+  both : littleBytes 2 (headReading bytes) ++ littleBytes 2 (headStages bytes) ≡ take 4 behind
+  both = rw (reading-bytes, stages-bytes) (sym (take-add 2 2 behind))
+
+  -- Six bytes: the last two are e's own.
+  module _ (other : recordLength bytes ≡ 4 → ⊥) where
+    six : length behind ≡ 6
+    six = length-payload bytes b whole ∙ not-four bytes (read .size) other
+
+    unit-bytes : littleBytes 2 (complement (headUnit bytes)) ≡ drop 4 behind
+    unfolding headUnit oldHeadLength
+    unit-bytes =
+        let last = below-drop 4 behind (below-payload bytes b) in
+        let size : length (drop 4 behind) ≡ 2 = rw length-drop (omega (arith, six)) in
+        rw (ne-eqb (recordLength bytes) 4 other, complement-signed (little 2 (drop 4 behind)) (below 2 (drop 4 behind) (below-all (lit< tt) (drop 4 behind) last)))
+        (bytes-back 2 (drop 4 behind) last (omega arith) ∙ take-all 2 (drop 4 behind) (omega arith))
+
+    same-head : headBytes (headReading bytes) (headStages bytes) (headUnit bytes) ++ rest bytes ≡ bytes
+    unfolding headBytes
+    same-head = rw (both, unit-bytes, take-append-drop 4 behind, ← read .kind) (record-back bytes b whole)
+
+  -- Four bytes: two zeros come behind them.
+  module _ (old : recordLength bytes ≡ 4) where
+    all-four : take 4 behind ≡ behind
+    all-four = take-all 4 behind (omega (arith, length-payload bytes b whole))
+
+    kind-and-payload : littleBytes 2 (recordKind bytes) ++ behind ≡ take 6 (drop 4 bytes)
+    unfolding payload
+    kind-and-payload = rw (kind-bytes-back bytes b whole, old, ← drop-drop 2 4 bytes) (sym (take-add 2 4 (drop 4 bytes)))
+
+    zero-unit : headUnit bytes ≡ pos 0
+    unfolding headUnit oldHeadLength
+    zero-unit = rw (eq-eqb (recordLength bytes) 4 old)
+
+    pieces : headBytes (headReading bytes) (headStages bytes) (headUnit bytes) ++ rest bytes ≡ littleBytes 4 6 ++ take 6 (drop 4 bytes) ++ littleBytes 2 0 ++ drop 10 bytes
+    unfolding headBytes recordBytes complement rest
+    pieces =
+        let size : length (behind ++ littleBytes 2 0) ≡ 6 = rw (length-append, length-little) (omega (arith, length-payload bytes b whole)) in
+        rw (both, all-four, zero-unit, size, ← kind-and-payload, read .kind, old) (simp append-assoc)
+
+    longer-head : headBytes (headReading bytes) (headStages bytes) (headUnit bytes) ++ rest bytes ≡ (6 ∷ 0 ∷ 0 ∷ 0 ∷ []) ++ take 6 (drop 4 bytes) ++ (0 ∷ 0 ∷ []) ++ drop 10 bytes
+    unfolding littleBytes
+    longer-head = pieces
+
+  pub head-again : headBytes (headReading bytes) (headStages bytes) (headUnit bytes) ++ rest bytes ≡ withUnit bytes
+  unfolding withUnit oldHeadLength
+  head-again =
+      by-equal (recordLength bytes) 4
+      (λ old. rw (eq-eqb (recordLength bytes) 4 old) (longer-head old))
+      (λ other. rw (ne-eqb (recordLength bytes) 4 other) (same-head other))
 
 -- The file.
-pub file-again : (bytes : List ℕ) (n : ℕ) → Below 256 bytes → SheetFile bytes n → sheetFile (headReading bytes) n (fileWords bytes) ≡ bytes
+pub file-again : (bytes : List ℕ) (n : ℕ) → Below 256 bytes → SheetFile bytes n → sheetFile (headReading bytes) n (headUnit bytes) (fileWords bytes) ≡ withUnit bytes
 unfolding sheetFile fileWords
 file-again bytes n b file =
     let passed = file-passed bytes n file in

@@ -4,10 +4,11 @@ use mathlib.Core.List.{List, [], _∷_, _++_, append-assoc, append-nil}
 use mathlib.Core.Path.{_≡_, refl, sym, ap, _∙_}
 use native.Mathlib.Nat.{suc-mul, zero-mul, add-zero, mul-le-mul, mul-le-mul-right}
 use native.Mathlib.Omega.{arith}
+use lib.IntN.{ℤ}
 use lib.ListN.{length, take, drop, getD, length-append, length-drop}
 use lib.Seq.{take-suc, drop-drop, length-take-le}
-use Rattle.definitions.specs.File.{fileLength}
-use Rattle.definitions.specs.Saving.{littleBytes, recordBytes, headBytes, wordBytes, rowBytes, rowsBytes, sheetFile}
+use Rattle.definitions.specs.File.{headLength, fileLength}
+use Rattle.definitions.specs.Saving.{littleBytes, recordBytes, complement, headBytes, wordBytes, rowBytes, rowsBytes, sheetFile}
 use Rattle.buffer.specs.Pasted.{Room, Written}
 use Rattle.buffer.proofs.Pasting.{written-nothing, room-first, room-next, written-next}
 use Rattle.records.proofs.LittleBytes.{length-little}
@@ -31,16 +32,17 @@ pub words-grow : (words : List ℕ) (k : ℕ) → k < length words → wordBytes
 words-grow words k h = ap wordBytes (take-suc words k 0 h) ∙ words-append (take k words) (getD words k 0 ∷ []) ∙ ap (λ l. wordBytes (take k words) ++ l) (one-word (getD words k 0))
 
 -- A head and a row, piece by piece.
-pub head-pieces : (reading n : ℕ) → headBytes reading n ≡ littleBytes 4 4 ++ littleBytes 2 1 ++ littleBytes 2 reading ++ littleBytes 2 n
+pub head-pieces : (reading n : ℕ) (e : ℤ) → headBytes reading n e ≡ littleBytes 4 6 ++ littleBytes 2 1 ++ littleBytes 2 reading ++ littleBytes 2 n ++ littleBytes 2 (complement e)
 unfolding headBytes recordBytes
-head-pieces reading n = rw (length-append, length-little, length-little) (simp append-assoc)
+head-pieces reading n e = simp (length-append, length-little, append-assoc)
 
 pub row-pieces : (number : ℕ) (words : List ℕ) → rowBytes number words ≡ littleBytes 4 (2 + 8 * length words) ++ littleBytes 2 2 ++ littleBytes 2 number ++ wordBytes words
 unfolding rowBytes recordBytes
 row-pieces number words = rw (length-append, length-little, length-words) (simp append-assoc)
 
-pub length-head : (reading n : ℕ) → length (headBytes reading n) ≡ 10
-length-head reading n = rw head-pieces (simp (length-append, length-little))
+pub length-head : (reading n : ℕ) (e : ℤ) → length (headBytes reading n e) ≡ 6 + headLength
+unfolding headLength
+length-head reading n e = rw head-pieces (simp (length-append, length-little))
 
 pub length-row : (number : ℕ) (words : List ℕ) → length (rowBytes number words) ≡ 8 + 8 * length words
 length-row number words = rw row-pieces (simp (length-append, length-little, length-words) (omega arith))
@@ -83,29 +85,29 @@ length-rows n due (suc m) words h =
     let later : length (rowsBytes n (suc due) m (drop n words)) ≡ m * (8 + 8 * n) = length-rows n (suc due) m (drop n words) (rw length-drop (omega arith)) in
     rw (length-append, length-row, row, later) (omega (arith, suc-mul m (8 + 8 * n)))
 
-pub length-file : (reading n : ℕ) (words : List ℕ) → length words ≡ n * n → length (sheetFile reading n words) ≡ fileLength n
+pub length-file : (reading n : ℕ) (e : ℤ) (words : List ℕ) → length words ≡ n * n → length (sheetFile reading n e words) ≡ fileLength n
 unfolding sheetFile fileLength
-length-file reading n words e = rw (length-append, length-head, length-rows n 1 n words (omega arith)) refl
+length-file reading n e words held = rw (length-append, length-head, length-rows n 1 n words (omega arith)) refl
 
 -- Room for the file is room for its head, and then for its rows, and together they are the file.
-module _ (reading n : ℕ) (words : List ℕ) {bytes : List ℕ} (held : length words ≡ n * n) (fits : fileLength n ≤ length bytes) where
-  pub whole-room : Room (sheetFile reading n words) 0 bytes
-  whole-room = record { within = omega (arith, length-file reading n words held) }
+module _ (reading n : ℕ) (e : ℤ) (words : List ℕ) {bytes : List ℕ} (held : length words ≡ n * n) (fits : fileLength n ≤ length bytes) where
+  pub whole-room : Room (sheetFile reading n e words) 0 bytes
+  whole-room = record { within = omega (arith, length-file reading n e words held) }
 
-  file-room : Room (headBytes reading n ++ rowsBytes n 1 n words) 0 bytes
+  file-room : Room (headBytes reading n e ++ rowsBytes n 1 n words) 0 bytes
   unfolding sheetFile
   file-room = whole-room
 
-  pub head-room : Room (headBytes reading n) 0 bytes
-  head-room = room-first (headBytes reading n) (rowsBytes n 1 n words) file-room
+  pub head-room : Room (headBytes reading n e) 0 bytes
+  head-room = room-first (headBytes reading n e) (rowsBytes n 1 n words) file-room
 
-  module _ {at : ℕ} {after : List ℕ} (head : Written (headBytes reading n) 0 bytes after at) where
+  module _ {at : ℕ} {after : List ℕ} (head : Written (headBytes reading n e) 0 bytes after at) where
     pub rows-room : Room (rowsBytes n 1 n words) at after
-    rows-room = room-next (headBytes reading n) (rowsBytes n 1 n words) file-room head
+    rows-room = room-next (headBytes reading n e) (rowsBytes n 1 n words) file-room head
 
-    pub file-written : {next : ℕ} {last : List ℕ} → Written (rowsBytes n 1 n words) at after last next → Written (sheetFile reading n words) 0 bytes last next
+    pub file-written : {next : ℕ} {last : List ℕ} → Written (rowsBytes n 1 n words) at after last next → Written (sheetFile reading n e words) 0 bytes last next
     unfolding sheetFile
-    file-written rows = written-next (headBytes reading n) (rowsBytes n 1 n words) file-room head rows
+    file-written rows = written-next (headBytes reading n e) (rowsBytes n 1 n words) file-room head rows
 
 -- A sheet is short, and row i ends within it.
 pub short : {n held : ℕ} → held ≡ n * n → n ≤ 32 → held ≤ 1024

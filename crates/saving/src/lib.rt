@@ -1,22 +1,25 @@
-// The file of a sheet, written at the start of a lent buffer of bytes (document 02, U1).
+// The file of a sheet, written at the start of a lent buffer of bytes (document 02, U1 and U5).
 ghost use mathlib.Core.Path.{_≡_};
 ghost use Prim.Native.Nat.{_*_, _≤_};
+ghost use lib.Dec.{T};
 ghost use lib.ListN.{length};
 ghost use Rattle.definitions.specs.File.{fileLength};
-ghost use Rattle.definitions.specs.Questions.{pass};
+ghost use Rattle.definitions.specs.Questions.{pass, exponentInRange};
 ghost use Rattle.definitions.specs.Saving.{headBytes, wordBytes, rowBytes, sheetFile, sheetWords};
 ghost use Rattle.definitions.specs.Services.{filled};
 ghost use Rattle.buffer.specs.Pasted.{Room, Written, AtStart};
 use records::put_header;
 use records::put_number;
 
-fn put_head(reading: usize, n: usize, at: usize, out: &mut [u8]) -> usize
-    requires { ⌜ Room (headBytes reading n) at (now out) ⌝ }
-    ensures { λ r. ⌜ Written (headBytes reading n) at (now (out .entry)) (now (out .exit)) r ⌝ }
+fn put_head(reading: usize, n: usize, e: i64, at: usize, out: &mut [u8]) -> usize
+    requires { ⌜ T (exponentInRange e) × Room (headBytes reading n e) at (now out) ⌝ }
+    ensures { λ r. ⌜ Written (headBytes reading n e) at (now (out .entry)) (now (out .exit)) r ⌝ }
 {
-    let payload = put_header(4, 1, at, out);
-    let next = put_number(reading as u64, 2, payload, out);
-    put_number(n as u64, 2, next, out)
+    let unit = records::complement(e);
+    let payload = put_header(6, 1, at, out);
+    let after_reading = put_number(reading as u64, 2, payload, out);
+    let after_n = put_number(n as u64, 2, after_reading, out);
+    put_number(unit, 2, after_n, out)
 }
 
 fn put_words(words: &[u64], at: usize, out: &mut [u8]) -> usize
@@ -42,11 +45,11 @@ fn put_row(number: usize, words: &[u64], at: usize, out: &mut [u8]) -> usize
 }
 
 // The whole file of a sheet of words; returns its length.
-pub fn put_sheet(reading: usize, n: usize, words: &[u64], out: &mut [u8]) -> usize
-    requires { ⌜ (length (now words) ≡ n * n) × (n ≤ 32) × (fileLength n ≤ length (now out)) ⌝ }
-    ensures { λ r. ⌜ AtStart (sheetFile reading n (now (words .entry))) (now (out .entry)) (now (out .exit)) r ⌝ }
+pub fn put_sheet(reading: usize, n: usize, e: i64, words: &[u64], out: &mut [u8]) -> usize
+    requires { ⌜ (length (now words) ≡ n * n) × (n ≤ 32) × (fileLength n ≤ length (now out)) × T (exponentInRange e) ⌝ }
+    ensures { λ r. ⌜ AtStart (sheetFile reading n e (now (words .entry))) (now (out .entry)) (now (out .exit)) r ⌝ }
 {
-    let mut at = put_head(reading, n, 0, out);
+    let mut at = put_head(reading, n, e, 0, out);
     let mut i = 0;
     while i < n {
         let first = i * n;
@@ -69,12 +72,12 @@ fn to_words(sheet: &[f64], words: &mut [u64])
 }
 
 // The whole file of a sheet of numbers, each by its bits; returns its length.
-pub fn put_numbers(reading: usize, n: usize, sheet: &[f64], out: &mut [u8]) -> usize
-    requires { ⌜ (length (now sheet) ≡ n * n) × (n ≤ 32) × (fileLength n ≤ length (now out)) ⌝ }
-    ensures { λ r. ⌜ AtStart (sheetFile reading n (sheetWords (now (sheet .entry)))) (now (out .entry)) (now (out .exit)) r ⌝ }
+pub fn put_numbers(reading: usize, n: usize, e: i64, sheet: &[f64], out: &mut [u8]) -> usize
+    requires { ⌜ (length (now sheet) ≡ n * n) × (n ≤ 32) × (fileLength n ≤ length (now out)) × T (exponentInRange e) ⌝ }
+    ensures { λ r. ⌜ AtStart (sheetFile reading n e (sheetWords (now (sheet .entry)))) (now (out .entry)) (now (out .exit)) r ⌝ }
 {
     let mut words = [0u64; 1024];
     to_words(sheet, &mut words);
     let held = sheet.len();
-    put_sheet(reading, n, &words[..held], out)
+    put_sheet(reading, n, e, &words[..held], out)
 }

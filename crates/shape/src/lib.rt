@@ -1,25 +1,28 @@
 // Questions 1 to 5 of document 01: the reading, the number of stages, the lengths of the lent areas and the
-// stages asked for, and those of saving and of one column (document 02, U1 and U2). Each answers 0, or the
-// number of the first question that is answered no; their refusals have no row and no column. And the number
-// at a place of a sheet of that shape.
+// stages asked for, with 12 of the unit among them, and those of saving and of one column (document 02, U1, U2
+// and U5). Each answers 0, or the number of the first question that is answered no; their refusals have no row
+// and no column. And the number at a place of a sheet of that shape.
 ghost use Prim.Native.Nat.{_*_, _<_};
 ghost use mathlib.Core.Path.{_≡_};
 ghost use Rattle.definitions.specs.Sheet.{place};
-ghost use Rattle.definitions.specs.Questions.{_then_, question1, question2, question3, question4, question5};
+ghost use Rattle.definitions.specs.Questions.{_then_, shapeQuestions, question4, question5};
 ghost use Rattle.definitions.specs.Saving.{saveQuestions};
 ghost use Rattle.definitions.specs.Column.{columnShape};
 ghost use Rattle.answers.specs.Outcome.{ComesTo};
 ghost use Rattle.shape.specs.Square.{Square};
 
-// Questions 1, 2 and 3. n * n is formed only once n is known to be small.
-fn ask_shape(reading: usize, n: usize, held: usize) -> usize
-    ensures { λ r. ⌜ ComesTo (question1 reading then question2 n then question3 n held) r 0 0 ⌝ }
+// Questions 1, 2, 12 and 3. n * n is formed only once n is known to be small.
+fn ask_shape(reading: usize, n: usize, e: i64, held: usize) -> usize
+    ensures { λ r. ⌜ ComesTo (shapeQuestions reading n e held) r 0 0 ⌝ }
 {
     if !((reading == 1) | (reading == 2)) {
         return 1;
     }
     if !((1 <= n) & (n <= 32)) {
         return 2;
+    }
+    if !((-512 <= e) & (e <= 512)) {
+        return 12;
     }
     if held != n * n {
         return 3;
@@ -28,10 +31,10 @@ fn ask_shape(reading: usize, n: usize, held: usize) -> usize
 }
 
 // Questions 1 to 4, those of the whole table: `held` and `room` are the lengths of the sheet and of the answer area.
-pub fn ask_table(reading: usize, n: usize, held: usize, room: usize) -> usize
-    ensures { λ r. ⌜ ComesTo (question1 reading then question2 n then question3 n held then question4 (n * n) room) r 0 0 ⌝ }
+pub fn ask_table(reading: usize, n: usize, e: i64, held: usize, room: usize) -> usize
+    ensures { λ r. ⌜ ComesTo (shapeQuestions reading n e held then question4 (n * n) room) r 0 0 ⌝ }
 {
-    let shape = ask_shape(reading, n, held);
+    let shape = ask_shape(reading, n, e, held);
     if shape != 0 {
         return shape;
     }
@@ -42,24 +45,24 @@ pub fn ask_table(reading: usize, n: usize, held: usize, room: usize) -> usize
 }
 
 // Questions 1 to 4 of saving: `room` is the number of bytes lent.
-pub fn ask_save(reading: usize, n: usize, held: usize, room: usize) -> usize
-    ensures { λ r. ⌜ ComesTo (saveQuestions reading n held room) r 0 0 ⌝ }
+pub fn ask_save(reading: usize, n: usize, e: i64, held: usize, room: usize) -> usize
+    ensures { λ r. ⌜ ComesTo (saveQuestions reading n e held room) r 0 0 ⌝ }
 {
-    let shape = ask_shape(reading, n, held);
+    let shape = ask_shape(reading, n, e, held);
     if shape != 0 {
         return shape;
     }
-    if room < 10 + n * (8 + 8 * n) {
+    if room < 12 + n * (8 + 8 * n) {
         return 4;
     }
     0
 }
 
 // Questions 1, 2, 3 and 5, those of one entry: row i and column j, counted from 1.
-pub fn ask_entry(reading: usize, n: usize, held: usize, i: usize, j: usize) -> usize
-    ensures { λ r. ⌜ ComesTo (question1 reading then question2 n then question3 n held then question5 n i j) r 0 0 ⌝ }
+pub fn ask_entry(reading: usize, n: usize, e: i64, held: usize, i: usize, j: usize) -> usize
+    ensures { λ r. ⌜ ComesTo (shapeQuestions reading n e held then question5 n i j) r 0 0 ⌝ }
 {
-    let shape = ask_shape(reading, n, held);
+    let shape = ask_shape(reading, n, e, held);
     if shape != 0 {
         return shape;
     }
@@ -71,13 +74,13 @@ pub fn ask_entry(reading: usize, n: usize, held: usize, i: usize, j: usize) -> u
 
 // Questions 1 to 5 of one column, of reading 1 alone: `room` is the length of the answer area, which takes n
 // numbers, and the stage is counted from 1.
-pub fn ask_column(reading: usize, n: usize, held: usize, room: usize, stage: usize) -> usize
-    ensures { λ r. ⌜ ComesTo (columnShape reading n held room stage) r 0 0 ⌝ }
+pub fn ask_column(reading: usize, n: usize, e: i64, held: usize, room: usize, stage: usize) -> usize
+    ensures { λ r. ⌜ ComesTo (columnShape reading n e held room stage) r 0 0 ⌝ }
 {
     if reading != 1 {
         return 1;
     }
-    let shape = ask_shape(1, n, held);
+    let shape = ask_shape(1, n, e, held);
     if shape != 0 {
         return shape;
     }

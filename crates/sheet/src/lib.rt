@@ -1,5 +1,5 @@
-// Questions 1 to 9 of document 01, in its order, for the whole table, one column and one entry, and those of
-// moving. The public calls have no `requires`: each question is asked only where the ones before it passed.
+// Questions 1 to 9 of document 01, in its order and with 12 of the unit, for the whole table, one column and one
+// entry, and those of moving. The public calls have no `requires`: each question is asked only where the ones before it passed.
 ghost use mathlib.Core.Bool.{cond};
 ghost use Rattle.definitions.specs.Questions.{placeQuestions, numberQuestions, tableInput, entryInput};
 ghost use Rattle.definitions.specs.Column.{columnInput};
@@ -50,10 +50,10 @@ fn ask_numbers(nine: bool, reading: usize, n: usize, sheet: &[f64]) -> Asked
 }
 
 // The questions of the whole table that come before its steps; `room` is the length of the answer area.
-pub fn table_input(reading: usize, n: usize, sheet: &[f64], room: usize) -> Asked
-    ensures { λ r. ⌜ ComesTo (tableInput reading n (now (sheet .entry)) room) (r .number) (r .row) (r .column) ⌝ }
+pub fn table_input(reading: usize, n: usize, e: i64, sheet: &[f64], room: usize) -> Asked
+    ensures { λ r. ⌜ ComesTo (tableInput reading n e (now (sheet .entry)) room) (r .number) (r .row) (r .column) ⌝ }
 {
-    let shape = shape::ask_table(reading, n, sheet.len(), room);
+    let shape = shape::ask_table(reading, n, e, sheet.len(), room);
     if shape != 0 {
         return Asked {
             number: shape,
@@ -65,10 +65,17 @@ pub fn table_input(reading: usize, n: usize, sheet: &[f64], room: usize) -> Aske
 }
 
 // The same for the column of a stage, counted from 1; `room` is the length of its answer area.
-pub fn column_input(reading: usize, n: usize, sheet: &[f64], room: usize, stage: usize) -> Asked
-    ensures { λ r. ⌜ ComesTo (columnInput reading n (now (sheet .entry)) room stage) (r .number) (r .row) (r .column) ⌝ }
+pub fn column_input(
+    reading: usize,
+    n: usize,
+    e: i64,
+    sheet: &[f64],
+    room: usize,
+    stage: usize,
+) -> Asked
+    ensures { λ r. ⌜ ComesTo (columnInput reading n e (now (sheet .entry)) room stage) (r .number) (r .row) (r .column) ⌝ }
 {
-    let shape = shape::ask_column(reading, n, sheet.len(), room, stage);
+    let shape = shape::ask_column(reading, n, e, sheet.len(), room, stage);
     if shape != 0 {
         return Asked {
             number: shape,
@@ -80,10 +87,10 @@ pub fn column_input(reading: usize, n: usize, sheet: &[f64], room: usize, stage:
 }
 
 // The same for the entry at row i and column j, counted from 1.
-pub fn entry_input(reading: usize, n: usize, sheet: &[f64], i: usize, j: usize) -> Asked
-    ensures { λ r. ⌜ ComesTo (entryInput reading n (now (sheet .entry)) i j) (r .number) (r .row) (r .column) ⌝ }
+pub fn entry_input(reading: usize, n: usize, e: i64, sheet: &[f64], i: usize, j: usize) -> Asked
+    ensures { λ r. ⌜ ComesTo (entryInput reading n e (now (sheet .entry)) i j) (r .number) (r .row) (r .column) ⌝ }
 {
-    let shape = shape::ask_entry(reading, n, sheet.len(), i, j);
+    let shape = shape::ask_entry(reading, n, e, sheet.len(), i, j);
     if shape != 0 {
         return Asked {
             number: shape,
@@ -95,10 +102,10 @@ pub fn entry_input(reading: usize, n: usize, sheet: &[f64], i: usize, j: usize) 
 }
 
 // The questions of moving that come before its own; `area` is the length of the second area.
-pub fn move_input(reading: usize, n: usize, sheet: &[f64], area: usize) -> Asked
-    ensures { λ r. ⌜ ComesTo (moveInput reading n (now (sheet .entry)) area) (r .number) (r .row) (r .column) ⌝ }
+pub fn move_input(reading: usize, n: usize, e: i64, sheet: &[f64], area: usize) -> Asked
+    ensures { λ r. ⌜ ComesTo (moveInput reading n e (now (sheet .entry)) area) (r .number) (r .row) (r .column) ⌝ }
 {
-    let shape = shape::ask_table(reading, n, sheet.len(), area);
+    let shape = shape::ask_table(reading, n, e, sheet.len(), area);
     if shape != 0 {
         return Asked {
             number: shape,

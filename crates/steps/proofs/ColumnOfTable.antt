@@ -5,6 +5,7 @@ use native.Mathlib.Omega.{arith}
 use mathlib.Core.Bool.{_&&_, _||_}
 use mathlib.Core.List.{List}
 use lib.Dec.{T}
+use lib.IntN.{ℤ}
 use lib.ListN.{length, getD, drop}
 use lib.Ieee.{Float, nan, lt}
 use lib.Ieee.Bits.{is-true}
@@ -17,7 +18,7 @@ use Rattle.definitions.specs.Compact.{rank}
 use Rattle.definitions.specs.Sheet.{place, takesPart}
 use Rattle.definitions.specs.Tables.{list, rows}
 use Rattle.definitions.specs.Table.{liveCount, liveSystem, liveBegun, entry, everyStepInRange}
-use Rattle.definitions.specs.Questions.{pass, _then_, question1, question2, question3, question4, question5, question10, numberQuestions, tableInput, tableQuestions}
+use Rattle.definitions.specs.Questions.{pass, _then_, question1, question4, question5, sizeQuestions, shapeQuestions, question10, numberQuestions, tableInput, tableQuestions}
 use Rattle.definitions.specs.Services.{table, tableArea}
 use Rattle.definitions.specs.Column.{columnReading, columnShape, columnInput, columnOf, columnInRange, columnQuestions, stageColumn, columnArea}
 use Rattle.steps.specs.ColumnOfTable.{ColumnOfTable}
@@ -29,17 +30,15 @@ use Rattle.steps.proofs.ZeroColumn.{zero-column}
 use Rattle.steps.proofs.QuestionLaws.{then-first, then-next, ask-yes}
 use Rattle.steps.proofs.TableLaws.{place-of-list, place-of-rows}
 
-module _ (n : ℕ) (sheet : List Float) (room : ℕ) (accepted : tableQuestions 1 n sheet room ≡ pass) where
-  -- Questions 2, 3 and 6 to 9 are the same; 10 asks for every column.
-  input : (question2 n ≡ pass) × (question3 n (length sheet) ≡ pass) × (numberQuestions 1 n sheet ≡ pass)
-  unfolding tableQuestions tableInput question1
+module _ (n : ℕ) (e : ℤ) (sheet : List Float) (room : ℕ) (accepted : tableQuestions 1 n e sheet room ≡ pass) where
+  -- Questions 2, 12, 3 and 6 to 9 are the same; 10 asks for every column.
+  input : (sizeQuestions n e (length sheet) ≡ pass) × (numberQuestions 1 n sheet ≡ pass)
+  unfolding tableQuestions tableInput shapeQuestions question1
   input =
-      let all = then-first (tableInput 1 n sheet room) (question10 1 n sheet) accepted in
-      let rest = then-next (question2 n) (question3 n (length sheet) then question4 (n * n) room then numberQuestions 1 n sheet) all in (
-        then-first (question2 n) (question3 n (length sheet) then question4 (n * n) room then numberQuestions 1 n sheet) all,
-        then-first (question3 n (length sheet)) (question4 (n * n) room then numberQuestions 1 n sheet) rest,
-        then-next (question4 (n * n) room) (numberQuestions 1 n sheet) (then-next (question3 n (length sheet)) (question4 (n * n) room then numberQuestions 1 n sheet) rest),
-      )
+      let all = then-first (tableInput 1 n e sheet room) (question10 1 n sheet) accepted in
+      let size = sizeQuestions n e (length sheet) in
+      let rest = question4 (n * n) room then numberQuestions 1 n sheet in
+      (then-first size rest all, then-next (question4 (n * n) room) (numberQuestions 1 n sheet) (then-next size rest all))
 
   module _ (r : ℕ) (at : ℕ → System) (t : T (inRange r at)) where
     its-column : (q : ℕ) → q < r → T (column r at q)
@@ -60,22 +59,22 @@ module _ (n : ℕ) (sheet : List Float) (room : ℕ) (accepted : tableQuestions 
   in-range j l =
       let r = liveCount n sheet in
       let at = downward r (liveSystem n sheet) in
-      let t = rw (steps-in-range n sheet) at (ask-yes (everyStepInRange 1 n sheet) 10 0 0 (then-next (tableInput 1 n sheet room) (question10 1 n sheet) accepted)) in
+      let t = rw (steps-in-range n sheet) at (ask-yes (everyStepInRange 1 n sheet) 10 0 0 (then-next (tableInput 1 n e sheet room) (question10 1 n sheet) accepted)) in
       and-i (shared r at) (column r at (columnOf n sheet j)) (and-l (shared r at) (all (column r at) 0 r) t)
       (by-bool (takesPart 1 n sheet j)
-      (λ e. rw (column-of-live n sheet j e) (its-column r at t (rank (takesPart 1 n sheet) j) (rw (live-count n sheet) (rank-below (takesPart 1 n sheet) n j l e))))
-      (λ e. rw (column-of-idle n sheet j e) (no-column r at t)))
+      (λ on. rw (column-of-live n sheet j on) (its-column r at t (rank (takesPart 1 n sheet) j) (rw (live-count n sheet) (rank-below (takesPart 1 n sheet) n j l on))))
+      (λ off. rw (column-of-idle n sheet j off) (no-column r at t)))
 
-  column-accepted : (free stage : ℕ) → 1 ≤ stage → stage ≤ n → n ≤ free → columnQuestions 1 n sheet free stage ≡ pass
+  column-accepted : (free stage : ℕ) → 1 ≤ stage → stage ≤ n → n ≤ free → columnQuestions 1 n e sheet free stage ≡ pass
   unfolding columnQuestions columnInput columnShape columnReading question4 question5
   column-accepted free stage a b c =
-      rw (input .0, input .1, le-leb n free c, le-leb 1 stage a, le-leb stage n b, input .2, is-true (columnInRange n sheet (stage - 1)) (in-range (stage - 1) (omega arith)))
+      rw (input .0, le-leb n free c, le-leb 1 stage a, le-leb stage n b, input .1, is-true (columnInRange n sheet (stage - 1)) (in-range (stage - 1) (omega arith)))
 
 pub column-of-table : ColumnOfTable
 unfolding ColumnOfTable columnArea stageColumn tableArea table
-column-of-table n sheet tableBefore columnBefore stage e a b c =
-    let ok = column-accepted n sheet (length tableBefore) e (length columnBefore) stage a b c in
+column-of-table n e sheet tableBefore columnBefore stage accepted a b c =
+    let ok = column-accepted n e sheet (length tableBefore) accepted (length columnBefore) stage a b c in
     let f : ℕ → Float = λ i. entry 1 n sheet i (stage - 1) in
-    let own : (i : ℕ) → i < n → getD (columnArea 1 n sheet stage columnBefore) i nan ≡ f i = λ i l. rw ok (place-of-list f n (drop (length (list f n)) columnBefore) i l) in
-    let whole : (i : ℕ) → i < n → place n (tableArea 1 n sheet tableBefore) i (stage - 1) ≡ f i = λ i l. rw e (place-of-rows (entry 1 n sheet) n (drop (length (rows (entry 1 n sheet) n n)) tableBefore) i (stage - 1) l (omega arith)) in
+    let own : (i : ℕ) → i < n → getD (columnArea 1 n e sheet stage columnBefore) i nan ≡ f i = λ i l. rw ok (place-of-list f n (drop (length (list f n)) columnBefore) i l) in
+    let whole : (i : ℕ) → i < n → place n (tableArea 1 n e sheet tableBefore) i (stage - 1) ≡ f i = λ i l. rw accepted (place-of-rows (entry 1 n sheet) n (drop (length (rows (entry 1 n sheet) n n)) tableBefore) i (stage - 1) l (omega arith)) in
     record { accepted = ok; same = λ i l. own i l ∙ sym (whole i l) }

@@ -15,3 +15,4 @@ pub mod Trapped
 pub mod ZeroColumn
 pub mod Filling
 mod ColumnOfTable
+mod AnyUnit

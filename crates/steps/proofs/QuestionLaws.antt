@@ -5,15 +5,17 @@ use mathlib.Core.List.{List}
 use mathlib.Core.Path.{_≡_, refl, ap₂, _∙_}
 use native.Mathlib.Omega.{arith}
 use lib.Dec.{T, leb, leb→le}
+use lib.IntN.{ℤ, pos, negsuc}
+use lib.Signed.{mag}
 use lib.Ieee.{Float}
 use lib.Ieee.Fits.{and-l, and-r}
+use lib.Ieee.Bits.{is-true}
 use Rattle.exact.specs.Chains.{In}
 use Rattle.exact.proofs.Sums.{none-in, on-range}
-use lib.Ieee.Bits.{is-true}
 use Rattle.definitions.specs.Numbers.{finite}
 use Rattle.definitions.specs.Sheet.{place}
 use Rattle.definitions.specs.Services.{given, answer}
-use Rattle.definitions.specs.Questions.{Asked, pass, refuse, _then_, ask, askRow, askRows, askStages, question5, question6, rightSign, question7, largeEnough, question8, placeQuestions}
+use Rattle.definitions.specs.Questions.{Asked, pass, refuse, _then_, ask, askRow, askRows, askStages, exponentInRange, question1, sizeQuestions, shapeQuestions, question5, question6, rightSign, question7, largeEnough, question8, placeQuestions}
 
 -- An answer is a pass or a refusal.
 pub never-both : {q : Asked} {number row column : ℕ} → q ≡ refuse number row column → q ≡ pass → ⊥
@@ -31,6 +33,17 @@ then-first (refuse n i j) b e = e
 pub then-next : (a b : Asked) → a then b ≡ pass → b ≡ pass
 then-next pass b e = e
 then-next (refuse n i j) b e = cc
+
+-- The reading is asked first.
+pub reading-passed : (reading n : ℕ) (e : ℤ) (held : ℕ) (rest : Asked) → (shapeQuestions reading n e held then rest) ≡ pass → question1 reading ≡ pass
+unfolding shapeQuestions
+reading-passed reading n e held rest q = then-first (question1 reading) (sizeQuestions n e held) (then-first (question1 reading then sizeQuestions n e held) rest q)
+
+-- Question 12: the exponent is a small number.
+pub exponent-small : (e : ℤ) → T (exponentInRange e) → mag e ≤ 512
+unfolding exponentInRange
+exponent-small (pos n) t = leb→le n 512 t
+exponent-small (negsuc n) t = omega (arith, leb→le n 511 (and-l (leb n 511) true t))
 
 -- What an answer that hands something over says of its questions.
 pub given-passes : {A : Type 0} (asked : Asked) (value due : A) → given value ≡ answer asked due → asked ≡ pass

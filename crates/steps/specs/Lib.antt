@@ -1,2 +1,3 @@
 pub mod Trapped
 pub mod ColumnOfTable
+pub mod AnyUnit

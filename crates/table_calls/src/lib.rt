@@ -5,15 +5,16 @@ ghost use Rattle.table_calls.specs.TableCalls.{TableCall, ColumnCall, En
 pub fn table(
     reading: usize,
     n: usize,
+    e: i64,
     sheet: &[f64],
     answer: &mut [f64],
     allowance: &mut usize,
     row: &mut usize,
     column: &mut usize,
 ) -> usize
-    ensures { λ r. ⌜ TableCall reading n (now (sheet .entry)) (now (answer .entry)) (now (answer .exit)) (now (allowance .entry)) (now (allowance .exit)) (now (row .exit)) (now (column .exit)) r ⌝ }
+    ensures { λ r. ⌜ TableCall reading n e (now (sheet .entry)) (now (answer .entry)) (now (answer .exit)) (now (allowance .entry)) (now (allowance .exit)) (now (row .exit)) (now (column .exit)) r ⌝ }
 {
-    let table = planner::whole_table(reading, n, sheet, answer);
+    let table = planner::whole_table(reading, n, e, sheet, answer);
     out_places::hand_allowance(table, allowance, row, column)
 }
 
@@ -21,6 +22,7 @@ pub fn table(
 pub fn column(
     reading: usize,
     n: usize,
+    e: i64,
     sheet: &[f64],
     stage: usize,
     answer: &mut [f64],
@@ -28,9 +30,9 @@ pub fn column(
     row: &mut usize,
     column: &mut usize,
 ) -> usize
-    ensures { λ r. ⌜ ColumnCall reading n (now (sheet .entry)) stage (now (answer .entry)) (now (answer .exit)) (now (allowance .entry)) (now (allowance .exit)) (now (row .exit)) (now (column .exit)) r ⌝ }
+    ensures { λ r. ⌜ ColumnCall reading n e (now (sheet .entry)) stage (now (answer .entry)) (now (answer .exit)) (now (allowance .entry)) (now (allowance .exit)) (now (row .exit)) (now (column .exit)) r ⌝ }
 {
-    let told = column_planner::one_column(reading, n, sheet, stage, answer);
+    let told = column_planner::one_column(reading, n, e, sheet, stage, answer);
     out_places::hand_allowance(told, allowance, row, column)
 }
 
@@ -38,6 +40,7 @@ pub fn column(
 pub fn entry(
     reading: usize,
     n: usize,
+    e: i64,
     sheet: &[f64],
     i: usize,
     j: usize,
@@ -45,8 +48,8 @@ pub fn entry(
     row: &mut usize,
     column: &mut usize,
 ) -> usize
-    ensures { λ r. ⌜ EntryCall reading n (now (sheet .entry)) i j (now (seconds .entry)) (now (seconds .exit)) (now (row .exit)) (now (column .exit)) r ⌝ }
+    ensures { λ r. ⌜ EntryCall reading n e (now (sheet .entry)) i j (now (seconds .entry)) (now (seconds .exit)) (now (row .exit)) (now (column .exit)) r ⌝ }
 {
-    let entry = planner::one_entry(reading, n, sheet, i, j);
+    let entry = planner::one_entry(reading, n, e, sheet, i, j);
     out_places::hand_seconds(entry, seconds, row, column)
 }

@@ -3,6 +3,7 @@ use mathlib.Core.Path.{_≡_, refl, sym, ap, ap₂, _∙_}
 use Prim.Native.Nat.{ℕ, zero, suc, _+_, _<_}
 use native.Mathlib.Omega.{arith}
 use mathlib.Core.List.{List, _++_}
+use lib.IntN.{ℤ}
 use lib.ListN.{length, drop}
 use lib.Ieee.{Float}
 use Rattle.definitions.specs.Tables.{rows}
@@ -41,16 +42,16 @@ filled-given pass value allowed new area e = refl
 filled-given (refuse number row column) value allowed new area e = cc
 
 -- The text for the answer that the whole table's service gives, and for the area that it leaves.
-given-text : (reading n : ℕ) (sheet area : List Float) (allowed : ℕ) → tableAnswer reading n sheet (length area) ≡ given allowed
-    → secondsLine n allowed ++ tableLines (place n (tableArea reading n sheet area)) n n ≡ tableText reading n sheet (given allowed)
+given-text : (reading n : ℕ) (e : ℤ) (sheet area : List Float) (allowed : ℕ) → tableAnswer reading n e sheet (length area) ≡ given allowed
+    → secondsLine n allowed e ++ tableLines (place n (tableArea reading n e sheet area)) n n ≡ tableText reading n e sheet (given allowed)
 unfolding tableText tableAnswer tableArea table
-given-text reading n sheet area allowed e =
-    ap (λ (lines : List ℕ). secondsLine n allowed ++ lines)
-    (rw (filled-given (tableQuestions reading n sheet (length area)) _ allowed (rows (entry reading n sheet) n n) area e)
+given-text reading n e sheet area allowed is =
+    ap (λ (lines : List ℕ). secondsLine n allowed e ++ lines)
+    (rw (filled-given (tableQuestions reading n e sheet (length area)) _ allowed (rows (entry reading n sheet) n n) area is)
     (lines-of-rows (entry reading n sheet) n _))
 
-pub text-of-answer : (reading n : ℕ) (sheet area : List Float) (a : Answer ℕ) → tableAnswer reading n sheet (length area) ≡ a
-    → answerText n (tableArea reading n sheet area) a ≡ tableText reading n sheet a
+pub text-of-answer : (reading n : ℕ) (e : ℤ) (sheet area : List Float) (a : Answer ℕ) → tableAnswer reading n e sheet (length area) ≡ a
+    → answerText n e (tableArea reading n e sheet area) a ≡ tableText reading n e sheet a
 unfolding answerText tableText
-text-of-answer reading n sheet area (given allowed) e = given-text reading n sheet area allowed e
-text-of-answer reading n sheet area (refused number row column) e = refl
+text-of-answer reading n e sheet area (given allowed) is = given-text reading n e sheet area allowed is
+text-of-answer reading n e sheet area (refused number row column) is = refl

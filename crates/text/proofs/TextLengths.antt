@@ -1,19 +1,26 @@
 -- How long the lines are: an entry's line has at most 23 bytes for row and column up to 32, and the whole text at most 32,768.
-use mathlib.Core.Path.{refl}
+use mathlib.Core.Path.{_≡_, refl}
 use Prim.Native.Nat.{ℕ, zero, suc, _+_, _*_, _^_, _≤_, _<_}
 use native.Mathlib.Omega.{arith}
-use mathlib.Core.List.{List, _++_}
+use mathlib.Core.List.{List, _++_, append-assoc}
+use lib.IntN.{ℤ}
 use lib.ListN.{length, length-append}
+use lib.Signed.{mag}
 use lib.Ieee.{Float, binary64, toBits}
 use Rattle.definitions.specs.Dwell.{text, secondsLine, entryLine, rowLines, tableLines}
 use Rattle.buffer.specs.Pasted.{Room}
-use Rattle.digits.proofs.Digits.{decimal-at-most, length-hexadecimal}
-use Rattle.lines.proofs.Lines.{seconds-pieces, entry-pieces, row-none, row-grows, table-none, table-grows}
+use Rattle.digits.proofs.Digits.{field, decimal-at-most, length-hexadecimal}
+use Rattle.digits.proofs.Integers.{signedField, integer-at-most}
+use Rattle.lines.proofs.Lines.{entry-pieces, row-none, row-grows, table-none, table-grows}
 
-pub length-seconds : (n allowed : ℕ) → n < 10 ^ 20 → allowed < 10 ^ 20 → length (secondsLine n allowed) ≤ 50
+pub seconds-pieces : (n allowed : ℕ) (e : ℤ) → secondsLine n allowed e ≡ text "seconds " ++ field n 32 ++ field allowed 32 ++ signedField e 10
+unfolding secondsLine text
+seconds-pieces n allowed e = simp append-assoc
+
+length-seconds : (n allowed : ℕ) (e : ℤ) → n < 10 ^ 20 → allowed < 10 ^ 20 → mag e < 2 ^ 63 → length (secondsLine n allowed e) ≤ 72
 unfolding text
-length-seconds n allowed a b =
-    rw (seconds-pieces n allowed) (simp length-append (omega (arith, decimal-at-most 19 n a, decimal-at-most 19 allowed b)))
+length-seconds n allowed e a b c =
+    rw (seconds-pieces n allowed e) (simp length-append (omega (arith, decimal-at-most 19 n a, decimal-at-most 19 allowed b, integer-at-most e c)))
 
 pub length-entry : (row column : ℕ) (x : Float) → row ≤ 32 → column ≤ 32 → length (entryLine row column x) ≤ 23
 length-entry row column x a b =
@@ -32,9 +39,9 @@ module _ (x : ℕ → ℕ → Float) where
       rw (table-grows, length-append) (omega (arith, length-table n m a (omega arith), length-row m n (omega arith) a))
 
 -- A whole text, and room for it in a buffer of 32,768 bytes.
-pub length-whole : (n allowed : ℕ) (x : ℕ → ℕ → Float) → n ≤ 32 → allowed < 10 ^ 20 → length (secondsLine n allowed ++ tableLines x n n) ≤ 32768
-length-whole n allowed x a b = rw length-append (omega (arith, length-seconds n allowed (omega arith) b, length-table x n n a a))
+length-whole : (n allowed : ℕ) (e : ℤ) (x : ℕ → ℕ → Float) → n ≤ 32 → allowed < 10 ^ 20 → mag e < 2 ^ 63 → length (secondsLine n allowed e ++ tableLines x n n) ≤ 32768
+length-whole n allowed e x a b c = rw length-append (omega (arith, length-seconds n allowed e (omega arith) b c, length-table x n n a a))
 
-pub seconds-room : (n allowed : ℕ) (x : ℕ → ℕ → Float) (out : List ℕ) → n ≤ 32 → allowed < 10 ^ 20 → 32768 ≤ length out
-    → Room (secondsLine n allowed ++ tableLines x n n) 0 out
-seconds-room n allowed x out a b h = record { within = omega (arith, length-whole n allowed x a b) }
+pub seconds-room : (n allowed : ℕ) (e : ℤ) (x : ℕ → ℕ → Float) (out : List ℕ) → n ≤ 32 → allowed < 10 ^ 20 → mag e < 2 ^ 63 → 32768 ≤ length out
+    → Room (secondsLine n allowed e ++ tableLines x n n) 0 out
+seconds-room n allowed e x out a b c h = record { within = omega (arith, length-whole n allowed e x a b c) }

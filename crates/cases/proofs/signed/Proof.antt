@@ -24,9 +24,10 @@ pub signed-spec : {M : Type 1} → statement M
 signed-spec =
     tie.close
     (tie.spec
+    (λ c κs. search needs)
     (λ c. search needs)
     (λ c. search needs)
     (λ c. search needs)
     (λ c. search needs)
-    (λ c. minus-small (18446744073709551615 - c .before .args .word) (complement (c .before .args .word) (c .if1 .left)))
+    (λ c. minus-small (18446744073709551615 - c .before .word .result) (complement (c .before .word .result) (c .if1 .left)))
     (λ c. search needs))

@@ -15,7 +15,7 @@ use Rattle.column_planner.proofs.column_of_sheet.Tie as tie
 
 -- What questions 1 to 9 leave.
 input : (s : tie.Start) → Square s.args.n (now s.args.sheet) × (s.args.n ≤ length (now s.args.answer)) × ((1 ≤ s.args.stage) × (s.args.stage ≤ s.args.n))
-input s = column-input-passed s.args.reading s.args.n (now s.args.sheet) (length (now s.args.answer)) s.args.stage s.pre
+input s = column-input-passed s.args.reading s.args.n s.args.e (now s.args.sheet) (length (now s.args.answer)) s.args.stage s.pre
 
 sub-steps : tie.Need-sub-steps
 sub-steps c = let p = input (c .before .before) in omega (arith, p .2 .0)
@@ -36,12 +36,12 @@ unfolding Binary64
 returns c =
     let s = c .before .before .before .before .before .before .before .before .before .before .before in
     let known = c .before .before .before .before .before .before .before .before .before .before .shared-slice-known .given in
-    column-given s.args.reading s.args.n (now s.args.sheet) s.args.stage (now s.args.answer) s.pre (c .before .before .before .before .before .before .before .steps .ensures) known (c .before .before .before .before .before .before .if1 .taken) (c .before .before .before .write-column .ensures) (c .allowance-of .ensures)
+    column-given s.args.reading s.args.n s.args.e (now s.args.sheet) s.args.stage (now s.args.answer) s.pre (c .before .before .before .before .before .before .before .steps .ensures) known (c .before .before .before .before .before .before .if1 .taken) (c .before .before .before .write-column .ensures) (c .allowance-of .ensures)
 
 returns-2 : tie.Need-returns-2
 returns-2 c =
     let s = c .before .before .before .before .before in
-    column-out-of-range s.args.reading s.args.n (now s.args.sheet) s.args.stage (now s.args.answer) s.pre (c .before .steps .ensures) (c .if1 .left)
+    column-out-of-range s.args.reading s.args.n s.args.e (now s.args.sheet) s.args.stage (now s.args.answer) s.pre (c .before .steps .ensures) (c .if1 .left)
 
 pub column-of-sheet-spec : {M : Type 1} → statement M
 column-of-sheet-spec =

@@ -1,28 +1,31 @@
 -- `file::save_numbers` meets its contract. Assumes nothing.
 use borrow.Author.Needs.{needs}
+use mir.Syntax.{w64}
+use mir.ValLaws.{toZ-ofZ}
 use Rattle.definitions.specs.Saving.{sheetWords, savedNumbers}
 use Rattle.saving.proofs.SheetWords.{length-sheet-words}
 use Rattle.file.proofs.SaveAnswers.{not-saved, to-save, saved}
 use Rattle.file.proofs.save_numbers.Statement.{statement}
 use Rattle.file.proofs.save_numbers.Tie as tie
 
+-- e is handed over by its bits, which mean e.
 returns : tie.Need-returns
 unfolding savedNumbers
 returns c =
     let start = c .before .before .before .before .before in
-    not-saved (start .args .reading) (start .args .n) (sheetWords (start .args .sheet .now)) (start .args .area .now) (length-sheet-words (start .args .sheet .now)) (c .before .before .ask-save .ensures) (c .before .if1 .taken) (c .not-saved .ensures)
+    not-saved (start .args .reading) (start .args .n) (start .args .e) (sheetWords (start .args .sheet .now)) (start .args .area .now) (length-sheet-words (start .args .sheet .now)) (rw (toZ-ofZ w64 (start .args .e) (start .fits .e)) at (c .before .before .ask-save .ensures)) (c .before .if1 .taken) (c .not-saved .ensures)
 
 put-numbers-requires : tie.Need-put-numbers-requires
 put-numbers-requires c κs =
     let start = c .before .before .before .before .before in
-    to-save (start .args .reading) (start .args .n) (sheetWords (start .args .sheet .now)) (start .args .area .now) (length-sheet-words (start .args .sheet .now)) (c .before .before .ask-save .ensures) (c .before .if1 .left)
+    rw (toZ-ofZ w64 (start .args .e) (start .fits .e)) (to-save (start .args .reading) (start .args .n) (start .args .e) (sheetWords (start .args .sheet .now)) (start .args .area .now) (length-sheet-words (start .args .sheet .now)) (rw (toZ-ofZ w64 (start .args .e) (start .fits .e)) at (c .before .before .ask-save .ensures)) (c .before .if1 .left))
 
 returns-2 : tie.Need-returns-2
 unfolding savedNumbers
 returns-2 c =
     let here = c .before .before .before .before in
     let start = here .before .before .before .before in
-    saved (start .args .reading) (start .args .n) (sheetWords (start .args .sheet .now)) (start .args .area .now) (length-sheet-words (start .args .sheet .now)) (here .before .ask-save .ensures) (here .if1 .left) (c .before .before .put-numbers .ensures)
+    saved (start .args .reading) (start .args .n) (start .args .e) (sheetWords (start .args .sheet .now)) (start .args .area .now) (length-sheet-words (start .args .sheet .now)) (rw (toZ-ofZ w64 (start .args .e) (start .fits .e)) at (here .before .ask-save .ensures)) (here .if1 .left) (rw (toZ-ofZ w64 (start .args .e) (start .fits .e)) at (c .before .before .put-numbers .ensures))
 
 pub save-numbers-spec : {M : Type 1} → statement M
 save-numbers-spec =

@@ -7,7 +7,7 @@ use Rattle.file_calls.proofs.read_numbers.Tie as tie
 
 returns : tie.Need-returns
 returns c =
-    let read = c .before .before .before .before .before .before .before in
+    let read = c .before .before .before .before .before .before .before .before in
     let a = read .before .before .before .before .args in
     file-call fileNumberArea (a .bytes .now) (a .area .now) (read .read-numbers .ensures .0) (read .read-numbers .ensures .1) (c .hand-head .ensures)
 

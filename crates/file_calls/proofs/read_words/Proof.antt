@@ -7,7 +7,7 @@ use Rattle.file_calls.proofs.read_words.Tie as tie
 
 returns : tie.Need-returns
 returns c =
-    let read = c .before .before .before .before .before .before .before in
+    let read = c .before .before .before .before .before .before .before .before in
     let a = read .before .before .before .before .args in
     file-call fileWordArea (a .bytes .now) (a .area .now) (read .read-words .ensures .0) (read .read-words .ensures .1) (c .hand-head .ensures)
 

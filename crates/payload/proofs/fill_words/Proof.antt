@@ -3,26 +3,33 @@ use Prim.Native.Nat.{_-_, _*_}
 use native.Mathlib.Omega.{arith}
 use Rattle.definitions.specs.File.{fileWords}
 use Rattle.steps.proofs.Filling.{Filling, none-yet, one-more, all-written}
-use Rattle.payload.proofs.FileWords.{few-words, file-words-length}
+use Rattle.payload.proofs.FileWords.{few-words, head-held, file-words-length}
 use Rattle.payload.proofs.fill_words.Statement.{statement}
 use Rattle.payload.proofs.fill_words.Tie as tie
 
 abbrev Inv-loop : tie.InvT-loop
-Inv-loop bytes n area₀ words k₀ area k = Filling (fileWords bytes) area₀ area (n * n) k
+Inv-loop bytes n area₀ words first k₀ area k = Filling (fileWords bytes) area₀ area (n * n) k
 
 abbrev μ-loop : tie.MeasureT-loop
-μ-loop bytes n area₀ words k₀ area k = n * n - k
+μ-loop bytes n area₀ words first k₀ area k = n * n - k
 
 loop-holds : tie.Need-loop-holds Inv-loop μ-loop
 loop-holds c =
-    let s = c .before .before in
+    let s = c .before .before .before in
     none-yet (file-words-length (s .args .bytes .now) (s .args .n) (s .pre .0)) (s .pre .1)
 
 mul-words : tie.Need-mul-words Inv-loop μ-loop
 mul-words c = omega (arith, few-words (c .before .before .args .bytes .now) (c .before .before .args .n) (c .before .before .pre .0))
 
+first-word-requires : tie.Need-first-word-requires Inv-loop μ-loop
+first-word-requires c κs =
+    let s = c .before .before in
+    head-held (s .args .bytes .now) (s .args .n) (s .pre .0)
+
 word-of-requires : tie.Need-word-of-requires Inv-loop μ-loop
-word-of-requires c κs = (c .before .before .before .before .pre .0, c .loop-test .taken)
+word-of-requires c κs =
+    let begun = c .before .before in
+    (begun .before .before .before .pre .0, begun .first-word .ensures, c .loop-test .taken)
 
 loop-again : tie.Need-loop-again Inv-loop μ-loop
 loop-again c = one-more (c .word-of .result) 0 (c .before .before .loop .inv) (c .before .loop-test .taken) (c .word-of .ensures)
@@ -34,6 +41,7 @@ fill-words-spec =
     Inv-loop
     μ-loop
     mul-words
+    first-word-requires
     loop-holds
     word-of-requires
     (λ c. omega arith)

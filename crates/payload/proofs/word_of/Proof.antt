@@ -7,8 +7,10 @@ use Rattle.payload.proofs.FileWords.{at-least-one, file-word, word-held
 use Rattle.payload.proofs.word_of.Statement.{statement}
 use Rattle.payload.proofs.word_of.Tie as tie
 
-held : (c : tie.After-shared-slice-known) → 18 + 8 * (c .before .args .k + c .before .args .k / c .before .args .n) + 8 ≤ length (c .before .args .bytes .now)
-held c = word-held (c .before .args .bytes .now) (c .before .args .n) (c .before .pre .0) (c .before .args .k) (c .before .pre .1)
+held : (c : tie.After-shared-slice-known) → let a = c .before .args in a.first + 8 * (a.k + a.k / a.n) + 8 ≤ length (a.bytes .now)
+held c =
+    let s = c .before in
+    rw (s .pre .1) (word-held (s .args .bytes .now) (s .args .n) (s .pre .0) (s .args .k) (s .pre .2))
 
 div-number-at : tie.Need-div-number-at
 div-number-at c = at-least-one (c .before .args .bytes .now) (c .before .args .n) (c .before .pre .0)
@@ -16,7 +18,7 @@ div-number-at c = at-least-one (c .before .args .bytes .now) (c .before .args .n
 returns : tie.Need-returns
 returns c =
     let s = c .before .before in
-    c .number-at .ensures ∙ sym (file-word (s .args .bytes .now) (s .args .n) (s .pre .0) (s .args .k) (s .pre .1))
+    rw (s .pre .1) at (c .number-at .ensures) ∙ sym (file-word (s .args .bytes .now) (s .args .n) (s .pre .0) (s .args .k) (s .pre .2))
 
 pub word-of-spec : {M : Type 1} → statement M
 word-of-spec =

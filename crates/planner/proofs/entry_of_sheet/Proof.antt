@@ -13,7 +13,7 @@ use Rattle.planner.proofs.entry_of_sheet.Tie as tie
 
 -- What questions 1 to 9 leave.
 stages : (s : tie.Start) → Square s.args.n (now s.args.sheet) × ((1 ≤ s.args.i) × (s.args.i ≤ s.args.n)) × ((1 ≤ s.args.j) × (s.args.j ≤ s.args.n))
-stages s = entry-input-passed s.args.reading s.args.n (now s.args.sheet) s.args.i s.args.j s.pre
+stages s = entry-input-passed s.args.reading s.args.n s.args.e (now s.args.sheet) s.args.i s.args.j s.pre
 
 sub-get : tie.Need-sub-get
 sub-get c = let p = stages (c .before .before .before .before) in omega (arith, p .1, p .2)
@@ -31,12 +31,12 @@ unfolding Binary64
 returns c =
     let s = c .before .before .before .before .before .before in
     let known = c .before .before .before .before .before .shared-slice-known .given in
-    entry-given s.args.reading s.args.n (now s.args.sheet) s.args.i s.args.j s.pre (c .before .before .before .steps .ensures) known (c .before .before .if1 .taken) (c .get .ensures)
+    entry-given s.args.reading s.args.n s.args.e (now s.args.sheet) s.args.i s.args.j s.pre (c .before .before .before .steps .ensures) known (c .before .before .if1 .taken) (c .get .ensures)
 
 returns-2 : tie.Need-returns-2
 returns-2 c =
     let s = c .before .before .before .before in
-    entry-out-of-range s.args.reading s.args.n (now s.args.sheet) s.args.i s.args.j s.pre (c .before .steps .ensures) (c .if1 .left)
+    entry-out-of-range s.args.reading s.args.n s.args.e (now s.args.sheet) s.args.i s.args.j s.pre (c .before .steps .ensures) (c .if1 .left)
 
 pub entry-of-sheet-spec : {M : Type 1} → statement M
 entry-of-sheet-spec =

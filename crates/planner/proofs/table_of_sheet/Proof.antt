@@ -15,7 +15,7 @@ use Rattle.planner.proofs.table_of_sheet.Tie as tie
 
 -- What questions 1 to 9 leave.
 input : (s : tie.Start) → Square s.args.n (now s.args.sheet) × (s.args.n * s.args.n ≤ length (now s.args.answer))
-input s = table-input-passed s.args.reading s.args.n (now s.args.sheet) (length (now s.args.answer)) s.pre
+input s = table-input-passed s.args.reading s.args.n s.args.e (now s.args.sheet) (length (now s.args.answer)) s.pre
 
 write-requires : tie.Need-write-requires
 write-requires c κs =
@@ -30,12 +30,12 @@ unfolding Binary64
 returns c =
     let s = c .before .before .before .before .before .before .before .before .before .before .before in
     let known = c .before .before .before .before .before .before .before .before .before .before .shared-slice-known .given in
-    table-given s.args.reading s.args.n (now s.args.sheet) (now s.args.answer) s.pre (c .before .before .before .before .before .before .before .steps .ensures) known (c .before .before .before .before .before .before .if1 .taken) (c .before .before .before .write .ensures) (c .allowance-of .ensures)
+    table-given s.args.reading s.args.n s.args.e (now s.args.sheet) (now s.args.answer) s.pre (c .before .before .before .before .before .before .before .steps .ensures) known (c .before .before .before .before .before .before .if1 .taken) (c .before .before .before .write .ensures) (c .allowance-of .ensures)
 
 returns-2 : tie.Need-returns-2
 returns-2 c =
     let s = c .before .before .before .before .before in
-    table-out-of-range s.args.reading s.args.n (now s.args.sheet) (now s.args.answer) s.pre (c .before .steps .ensures) (c .if1 .left)
+    table-out-of-range s.args.reading s.args.n s.args.e (now s.args.sheet) (now s.args.answer) s.pre (c .before .steps .ensures) (c .if1 .left)
 
 pub table-of-sheet-spec : {M : Type 1} → statement M
 table-of-sheet-spec =

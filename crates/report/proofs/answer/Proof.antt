@@ -2,6 +2,8 @@
 use borrow.Author.Needs.{needs}
 use mathlib.Core.Path.{refl}
 use native.Mathlib.Omega.{arith}
+use mir.Syntax.{w64}
+use mir.ValLaws.{toZ-ofZ}
 use lib.ListN.{length-take}
 use Rattle.report.proofs.Reporting.{reported, places, stages, sheet-text, file-refused}
 use Rattle.report.proofs.answer.Statement.{statement}
@@ -35,12 +37,15 @@ table-text-requires c κs =
     let start = read .before .before .before .before in
     (stages (start .args .bytes .now) _ _ refl (read .read-numbers .ensures .0) (read .read-numbers .ensures .1) (told .loaded .given .1), start .pre)
 
+-- The enum holds e by its bits, and it is handed on by them.
 returns : tie.Need-returns
 returns c =
-    let told = c .before .before .before .before .before .before in
+    let known = c .before .before .before .before .before in
+    let told = known .before in
     let read = told .before .before .before in
     let start = read .before .before .before .before in
-    reported (sheet-text (start .args .bytes .now) _ _ refl (read .read-numbers .ensures .0) (read .read-numbers .ensures .1) (told .loaded .given .1)) (omega arith) (c .before .before .table-text .ensures)
+    let same = toZ-ofZ w64 (told .loaded .given .0 .1 .1 .0) (record { sfits = known .known-told .given .1 .1 .0 .1 }) in
+    reported (sheet-text (start .args .bytes .now) _ _ refl (read .read-numbers .ensures .0) (read .read-numbers .ensures .1) (told .loaded .given .1)) (omega arith) (rw same at (c .before .before .table-text .ensures))
 
 returns-2 : tie.Need-returns-2
 returns-2 c =

@@ -2,6 +2,8 @@
 use borrow.Author.Needs.{needs}
 use mathlib.Core.Path.{refl}
 use native.Mathlib.Omega.{arith}
+use mir.Syntax.{w64}
+use mir.ValLaws.{toZ-ofZ}
 use Rattle.file_questions.proofs.Judging.{few-squared}
 use Rattle.report.proofs.Reporting.{same-text, served-text}
 use Rattle.report.proofs.table_text.Statement.{statement}
@@ -12,11 +14,13 @@ answer-text-requires c κs =
     let start = c .before .before .before .before .before .before .before in
     (start .pre .0, omega (arith, few-squared (start .args .n) (start .pre .0)), start .pre .1)
 
+-- e is handed over by its bits, which mean e.
 returns : tie.Need-returns
 returns c =
     let made = c .before .before .before .before .before .before in
     let start = made .before .before .before .before in
-    same-text (served-text (start .args .reading) (start .args .n) (start .args .sheet .now) _ _ refl (made .whole-table .ensures)) (c .before .before .answer-text .ensures)
+    let same = toZ-ofZ w64 (start .args .e) (start .fits .e) in
+    same-text (served-text (start .args .reading) (start .args .n) (start .args .e) (start .args .sheet .now) _ _ refl (rw same at (made .whole-table .ensures))) (rw same at (c .before .before .answer-text .ensures))
 
 pub table-text-spec : {M : Type 1} → statement M
 table-text-spec =

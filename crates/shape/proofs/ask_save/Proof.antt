@@ -2,30 +2,38 @@
 use Prim.Native.Nat.{_*_, _≤_}
 use native.Mathlib.Omega.{arith}
 use borrow.Author.Needs.{needs}
-use Rattle.definitions.specs.File.{fileLength}
+use mir.Syntax.{w64}
+use mir.ValLaws.{toZ-ofZ}
+use Rattle.definitions.specs.File.{headLength, fileLength}
 use Rattle.definitions.specs.Saving.{saveQuestions}
 use Rattle.answers.proofs.Outcome.{passed, ends, goes-on}
+use Rattle.definitions.specs.Questions.{shapeQuestions}
+use Rattle.answers.specs.Outcome.{ComesTo}
 use Rattle.shape.proofs.Square.{square-small}
-use Rattle.shape.proofs.ShapeQuestions.{shape-next, shape-few, bad-room, good-room}
+use Rattle.shape.proofs.ShapeQuestions.{shape-few, bad-room, good-room}
 use Rattle.shape.proofs.ask_save.Statement.{statement}
 use Rattle.shape.proofs.ask_save.Tie as tie
 
+-- e is handed over by its bits, which mean e.
+asked : (c : tie.After-ask-shape) → let a = c .before .args in ComesTo (shapeQuestions a.reading a.n a.e a.held) (c .ask-shape .result) 0 0
+asked c = let s = c .before in rw (toZ-ofZ w64 s.args.e s.fits.e) at (c .ask-shape .ensures)
+
 returns : tie.Need-returns
 unfolding saveQuestions
-returns c = shape-next _ _ _ _ (ends (c .before .ask-shape .ensures) _ (c .if1 .taken))
+returns c = ends (asked (c .before)) _ (c .if1 .taken)
 
 returns-2 : tie.Need-returns-2
-unfolding saveQuestions fileLength
-returns-2 c = shape-next _ _ _ _ (goes-on (c .before .before .ask-shape .ensures) (c .before .if1 .left) (bad-room _ _ (c .if2 .taken)))
+unfolding saveQuestions fileLength headLength
+returns-2 c = goes-on (asked (c .before .before)) (c .before .if1 .left) (bad-room _ _ (c .if2 .taken))
 
 returns-3 : tie.Need-returns-3
-unfolding saveQuestions fileLength
-returns-3 c = shape-next _ _ _ _ (goes-on (c .before .before .ask-shape .ensures) (c .before .if1 .left) (good-room _ _ (c .if2 .left)))
+unfolding saveQuestions fileLength headLength
+returns-3 c = goes-on (asked (c .before .before)) (c .before .if1 .left) (good-room _ _ (c .if2 .left))
 
 -- The number of bytes fits.
 small : (c : tie.Else1) → (c .before .before .args .n ≤ 32) × (c .before .before .args .n * c .before .before .args .n ≤ 1024)
 small c =
-    let few = shape-few _ _ _ (passed (c .before .ask-shape .ensures) (c .if1 .left)) in
+    let few = shape-few _ _ _ _ (passed (asked (c .before)) (c .if1 .left)) in
     (few, square-small few)
 
 pub ask-save-spec : {M : Type 1} → statement M

@@ -1,18 +1,27 @@
 -- `sheet::column_input` meets its contract. Assumes nothing.
 use borrow.Author.Needs.{needs}
-use Rattle.definitions.specs.Column.{columnInput}
+use denote.Ref.{now}
+use mir.Syntax.{w64}
+use mir.ValLaws.{toZ-ofZ}
+use lib.ListN.{length}
+use Rattle.definitions.specs.Column.{columnShape, columnInput}
+use Rattle.answers.specs.Outcome.{ComesTo}
 use Rattle.answers.proofs.Outcome.{passed, ends, goes-on}
 use Rattle.shape.proofs.ShapeQuestions.{column-square}
 use Rattle.sheet.proofs.column_input.Statement.{statement}
 use Rattle.sheet.proofs.column_input.Tie as tie
 
+-- e is handed over by its bits, which mean e.
+asked : (c : tie.After-ask-column) → let a = c .before .before .args in ComesTo (columnShape a.reading a.n a.e (length (now a.sheet)) a.room a.stage) (c .ask-column .result) 0 0
+asked c = let s = c .before .before in rw (toZ-ofZ w64 s.args.e s.fits.e) at (c .ask-column .ensures)
+
 returns : tie.Need-returns
 unfolding columnInput
-returns c = ends (c .before .ask-column .ensures) _ (c .if1 .taken)
+returns c = ends (asked (c .before)) _ (c .if1 .taken)
 
 returns-2 : tie.Need-returns-2
 unfolding columnInput
-returns-2 c = goes-on (c .before .before .ask-column .ensures) (c .before .if1 .left) (c .ask-numbers .ensures)
+returns-2 c = goes-on (asked (c .before .before)) (c .before .if1 .left) (c .ask-numbers .ensures)
 
 pub column-input-spec : {M : Type 1} → statement M
 column-input-spec =
@@ -20,5 +29,5 @@ column-input-spec =
     (tie.spec
     (λ c κs. search needs)
     returns
-    (λ c κs. column-square _ _ _ _ _ (passed (c .before .ask-column .ensures) (c .if1 .left)))
+    (λ c κs. column-square _ _ _ _ _ _ (passed (asked (c .before)) (c .if1 .left)))
     returns-2)

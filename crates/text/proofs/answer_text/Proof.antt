@@ -1,12 +1,18 @@
 -- `text::answer_text` meets its contract: the answer, case by case. Assumes nothing.
 use borrow.Author.Needs.{needs}
+use mir.Syntax.{w64}
+use mir.ValLaws.{toZ-ofZ}
 use Rattle.text.specs.AnswerText.{answerText}
 use Rattle.text.proofs.answer_text.Statement.{statement}
 use Rattle.text.proofs.answer_text.Tie as tie
 
+-- e is handed over by its bits, which mean e.
 returns : tie.Need-returns
 unfolding answerText
-returns c = rw (c .before .before .before .before .before .told .given .1) (c .before .before .seconds-text .ensures)
+returns c =
+    let told = c .before .before .before .before .before in
+    let s = told .before .before .before .before in
+    rw (told .told .given .1) (rw (toZ-ofZ w64 s.args.e s.fits.e) at (c .before .before .seconds-text .ensures))
 
 returns-2 : tie.Need-returns-2
 unfolding answerText
