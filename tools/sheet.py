@@ -18,7 +18,6 @@ from decimal import ROUND_UP, Context, Decimal
 from typing import Iterator, NamedTuple, Sequence
 
 LIMIT = 32                 # the most stages of a sheet
-LONGEST_FILE = 8460        # the most bytes of a sheet file
 LONGEST_TEXT = 1 << 20     # the most bytes read of a text or of dwell's output
 SMALLEST = 2.0 ** -1022    # the smallest size of a number that is not zero
 LEAVING_RATES, MARGINS = 1, 2
@@ -472,6 +471,7 @@ def sheet_of(draft: Draft) -> Sheet:
 
 HEAD = "<HHh"           # reading, n and a signed e
 SHORT_HEAD = "<HH"      # a head from before units, which is still read: e is 0
+LONGEST_FILE = 6 + struct.calcsize(HEAD) + LIMIT * (6 + 2 + 8 * LIMIT)  # the most bytes of a sheet file
 
 
 def record(kind: int, payload: bytes) -> bytes:

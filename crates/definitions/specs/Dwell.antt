@@ -1,4 +1,4 @@
--- What the dwell program prints for the bytes of its standard input (document 01, "The sheet file").
+-- What the dwell program prints for the bytes of its standard input (document 01, "The sheet file"; document 02, U5).
 use Prim.Native.Nat.{ℕ, zero, suc, _+_, _/_, _%_}
 use Prim.Native.Char.{code}
 use Prim.Native.String.{String}
@@ -25,7 +25,7 @@ digits (suc more) a = let front = digits more (a / 10) in cond (ltb a 10) [] fro
 unfoldable pub decimal : ℕ → List ℕ
 decimal a = digits 20 a
 
--- A signed number, "with a minus sign where it is negative".
+-- A signed number: a minus sign before the digits where it is negative.
 unfoldable pub integer : ℤ → List ℕ
 integer (pos m) = decimal m
 integer (negsuc m) = text "-" ++ decimal (suc m)

@@ -54,6 +54,7 @@ signed word = cond (ltb word 32768) (pos word) (negsuc (65535 - word))
 unfoldable pub headUnit : List ℕ → ℤ
 headUnit bytes = cond (eqb (recordLength bytes) oldHeadLength) (pos 0) (signed (little 2 (drop 4 (payload bytes))))
 
+-- "Head length 4 or 6."
 unfoldable pub knownHead : List ℕ → Bool
 knownHead bytes = eqb (recordLength bytes) oldHeadLength || eqb (recordLength bytes) headLength
 

@@ -30,7 +30,7 @@ module _ (reading n : ℕ) (e : ℤ) (words area : List ℕ) {held number : ℕ}
     pub to-save : (held ≡ n * n) × (n ≤ 32) × (fileLength n ≤ length area) × T (exponentInRange e)
     to-save =
         let p = save-passed reading n e held (length area) yes in
-        (p .1, p .0, p .2, p .3)
+        (p .0 .pairs, p .0 .few, p .1, p .0 .unit)
 
     pub saved : {after : List ℕ} {count : ℕ} → AtStart (sheetFile reading n e words) area after count
         → (given count ≡ saveAnswer reading n e held (length area)) × (after ≡ savedWords reading n e words area)

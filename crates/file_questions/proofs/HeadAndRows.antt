@@ -54,6 +54,10 @@ module _ (bytes : List ℕ) where
   unfolding knownHead headLength oldHeadLength
   not-four known other = eqb-true (recordLength bytes) 6 (rw (ne-eqb (recordLength bytes) 4 other) at known)
 
+  pub old-unit : recordLength bytes ≡ 4 → headUnit bytes ≡ pos 0
+  unfolding headUnit oldHeadLength
+  old-unit is = rw (eq-eqb (recordLength bytes) 4 is)
+
   module _ (known : knownHead bytes ≡ true) where
     pub head-reading : headReading bytes ≡ little 2 (drop 6 bytes)
     unfolding headReading
@@ -66,10 +70,6 @@ module _ (bytes : List ℕ) where
     head-stages =
         let held : 2 + 2 ≤ recordLength bytes = omega (arith, at-least-four known) in
         payload-at bytes 0 2 2 held
-
-    pub old-unit : recordLength bytes ≡ 4 → pos 0 ≡ headUnit bytes
-    unfolding headUnit oldHeadLength
-    old-unit is = rw (eq-eqb (recordLength bytes) 4 is)
 
     pub new-unit : (recordLength bytes ≡ 4 → ⊥) → signed (little 2 (drop 10 bytes)) ≡ headUnit bytes
     unfolding headUnit oldHeadLength

@@ -1,25 +1,24 @@
 -- The round trips.
 use Prim.Native.Nat.{ℕ, _*_, _^_, _≤_, _<_}
-use mathlib.Core.Bool.{true, _&&_, _||_}
+use mathlib.Core.Bool.{true, _||_}
 use mathlib.Core.List.{List}
 use mathlib.Core.Logic.{⊎-elim}
 use mathlib.Core.Path.{_≡_, refl, sym, ap, _∙_}
 use native.Mathlib.Omega.{arith}
 use borrow.Author.Tests.{eq-eqb, le-leb}
-use lib.Dec.{T, leb, eqb, eqb→eq, leb→le}
+use lib.Dec.{eqb, eqb→eq}
 use lib.IntN.{ℤ}
 use lib.ListN.{length, take, length-map}
 use lib.Seq.{take-at}
 use lib.Ieee.{binary64, ofBits}
 use lib.Ieee.Bits.{is-true}
-use lib.Ieee.Fits.{and-l}
 use Rattle.exact.proofs.Bools.{or-cases}
-use Rattle.definitions.specs.Questions.{pass, _then_, exponentInRange, question1, question2, question12, question3, sizeQuestions, shapeQuestions, question4}
+use Rattle.definitions.specs.Questions.{pass, exponentInRange, question1, question2, question12, question3, sizeQuestions, shapeQuestions, question4}
 use Rattle.definitions.specs.Services.{given}
 use Rattle.definitions.specs.File.{Head, headReading, headStages, headUnit, fileLength, fileQuestions, headOf, fileAnswer, fileWords, fileNumbers}
 use Rattle.definitions.specs.Saving.{sheetFile, saveQuestions, saveAnswer, sheetWords, savedWords, savedNumbers}
-use Rattle.steps.proofs.QuestionLaws.{then-first, then-next, ask-yes, reading-passed, given-passes, given-is}
-use Rattle.shape.proofs.ShapeQuestions.{save-passed}
+use Rattle.steps.proofs.QuestionLaws.{ask-yes, reading-passed, given-passes, given-is}
+use Rattle.shape.proofs.ShapeQuestions.{Sized, save-passed}
 use Rattle.payload.specs.SheetFile.{SheetFile}
 use Rattle.payload.proofs.FileWords.{file-passed, file-words-length}
 use Rattle.saving.proofs.FileBytes.{length-file}
@@ -29,18 +28,11 @@ use Rattle.round_trip.proofs.Loading.{file-reading, file-stages, file-u
 use Rattle.round_trip.proofs.SavingAgain.{file-again, file-words-below}
 use Rattle.round_trip.proofs.NumberWords.{words-below, numbers-back, words-kept}
 
--- What the questions of the reading and of the stages say where they pass.
+-- What question 1 says where it passes.
 module _ (reading n : ℕ) (e : ℤ) (held room : ℕ) (passes : saveQuestions reading n e held room ≡ pass) where
   first : question1 reading ≡ pass
   unfolding saveQuestions
   first = reading-passed reading n e held (question4 (fileLength n) room) passes
-
-  second : question2 n ≡ pass
-  unfolding saveQuestions shapeQuestions sizeQuestions
-  second =
-      let size = question2 n then question12 e then question3 n held in
-      then-first (question2 n) (question12 e then question3 n held)
-      (then-next (question1 reading) size (then-first (question1 reading then size) (question4 (fileLength n) room) passes))
 
   known : (eqb reading 1 || eqb reading 2) ≡ true
   unfolding question1
@@ -52,10 +44,6 @@ module _ (reading n : ℕ) (e : ℤ) (held room : ℕ) (passes : saveQuestions r
       ⊎-elim (λ t. let e = eqb→eq reading 1 t in omega arith) (λ t. let e = eqb→eq reading 2 t in omega arith)
       (or-cases (eqb reading 1) (eqb reading 2) (ask-yes (eqb reading 1 || eqb reading 2) 1 0 0 first))
 
-  least : 1 ≤ n
-  unfolding question2
-  least = leb→le 1 n (and-l (leb 1 n) (leb n 32) (ask-yes (leb 1 n && leb n 32) 2 0 0 second))
-
 -- A sheet that is saved: the first bytes of the area are its file.
 module _ (reading n : ℕ) (e : ℤ) (words area : List ℕ) {size : ℕ} (saves : saveAnswer reading n e (length words) (length area) ≡ given size) where
   passes : saveQuestions reading n e (length words) (length area) ≡ pass
@@ -66,37 +54,29 @@ module _ (reading n : ℕ) (e : ℤ) (words area : List ℕ) {size : ℕ} (saves
   unfolding saveAnswer
   handed = given-is (saveQuestions reading n e (length words) (length area)) size (fileLength n) (sym saves)
 
-  held : length words ≡ n * n
-  held = save-passed reading n e (length words) (length area) passes .1
+  sizes : Sized n e (length words)
+  sizes = save-passed reading n e (length words) (length area) passes .0
 
   file-saved : take size (savedWords reading n e words area) ≡ sheetFile reading n e words
   unfolding savedWords
-  file-saved = rw passes (take-at (sheetFile reading n e words) _ size (length-file reading n e words held ∙ sym handed))
+  file-saved = rw passes (take-at (sheetFile reading n e words) _ size (length-file reading n e words (sizes .pairs) ∙ sym handed))
 
   module _ (room : ℕ) (enough : n * n ≤ room) where
     abbrev file : List ℕ
     file = take size (savedWords reading n e words area)
-
-    few : n ≤ 32
-    few = save-passed reading n e (length words) (length area) passes .0
-
-    unit : T (exponentInRange e)
-    unit = save-passed reading n e (length words) (length area) passes .3
 
     answers-back : fileAnswer file room ≡ given (record { reading = reading; n = n; e = e })
     unfolding fileAnswer headOf
     answers-back =
         let k = known reading n e (length words) (length area) passes in
         let s = narrow reading n e (length words) (length area) passes in
-        let l = least reading n e (length words) (length area) passes in
-        rw (file-saved, file-passes reading n e room words k s l few held enough unit, file-reading reading n e room words k s l few held enough unit, file-stages reading n e room words k s l few held enough unit, file-unit reading n e room words k s l few held enough unit)
+        rw (file-saved, file-passes reading n e room words k s (sizes .least) (sizes .few) (sizes .pairs) enough (sizes .unit), file-reading reading n e room words k s (sizes .least) (sizes .few) (sizes .pairs) enough (sizes .unit), file-stages reading n e room words k s (sizes .least) (sizes .few) (sizes .pairs) enough (sizes .unit), file-unit reading n e room words k s (sizes .least) (sizes .few) (sizes .pairs) enough (sizes .unit))
 
     words-again : Below (2 ^ 64) words → fileWords file ≡ words
     words-again b =
         let k = known reading n e (length words) (length area) passes in
         let s = narrow reading n e (length words) (length area) passes in
-        let l = least reading n e (length words) (length area) passes in
-        rw file-saved (file-words reading n e room words k s l few held enough unit b)
+        rw file-saved (file-words reading n e room words k s (sizes .least) (sizes .few) (sizes .pairs) enough (sizes .unit) b)
 
 pub loads-what-was-saved : LoadsWhatWasSaved
 unfolding LoadsWhatWasSaved

@@ -6,7 +6,6 @@ use mathlib.Core.Path.{_≡_, refl, sym, _∙_}
 use native.Mathlib.Omega.{arith}
 use borrow.Author.Tests.{eqb-true, eq-eqb, ne-eqb}
 use lib.Dec.{eqb, lit<}
-use lib.IntN.{pos}
 use lib.ListN.{length, take, drop, length-append, length-drop, take-append-drop}
 use lib.Seq.{take-at, drop-at, drop-drop, take-add, take-all}
 use lib.Ieee.Bits.{is-true}
@@ -18,7 +17,7 @@ use Rattle.exact.proofs.Cases.{by-equal}
 use Rattle.records.proofs.Little.{below}
 use Rattle.records.proofs.LittleBytes.{length-little}
 use Rattle.records.proofs.Signed.{complement-signed}
-use Rattle.file_questions.proofs.HeadAndRows.{at-least-four, not-four}
+use Rattle.file_questions.proofs.HeadAndRows.{at-least-four, not-four, old-unit}
 use Rattle.file_questions.proofs.Judging.{Read, RowRead}
 use Rattle.payload.specs.SheetFile.{SheetFile}
 use Rattle.payload.proofs.FileWords.{words-length, row-passed, file-passed}
@@ -123,15 +122,11 @@ module _ (bytes : List ℕ) (b : Below 256 bytes) (whole : wholeRecord bytes ≡
     unfolding payload
     kind-and-payload = rw (kind-bytes-back bytes b whole, old, ← drop-drop 2 4 bytes) (sym (take-add 2 4 (drop 4 bytes)))
 
-    zero-unit : headUnit bytes ≡ pos 0
-    unfolding headUnit oldHeadLength
-    zero-unit = rw (eq-eqb (recordLength bytes) 4 old)
-
     pieces : headBytes (headReading bytes) (headStages bytes) (headUnit bytes) ++ rest bytes ≡ littleBytes 4 6 ++ take 6 (drop 4 bytes) ++ littleBytes 2 0 ++ drop 10 bytes
     unfolding headBytes recordBytes complement rest
     pieces =
         let size : length (behind ++ littleBytes 2 0) ≡ 6 = rw (length-append, length-little) (omega (arith, length-payload bytes b whole)) in
-        rw (both, all-four, zero-unit, size, ← kind-and-payload, read .kind, old) (simp append-assoc)
+        rw (both, all-four, old-unit bytes old, size, ← kind-and-payload, read .kind, old) (simp append-assoc)
 
     longer-head : headBytes (headReading bytes) (headStages bytes) (headUnit bytes) ++ rest bytes ≡ (6 ∷ 0 ∷ 0 ∷ 0 ∷ []) ++ take 6 (drop 4 bytes) ++ (0 ∷ 0 ∷ []) ++ drop 10 bytes
     unfolding littleBytes

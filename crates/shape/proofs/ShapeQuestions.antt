@@ -21,36 +21,31 @@ use Rattle.answers.proofs.Outcome.{all-pass, no, asked-no, asked-yes, in-other-
 use Rattle.exact.proofs.Bools.{and-second}
 use Rattle.shape.specs.Square.{Square}
 
-few-stages : (n : ℕ) → question2 n ≡ pass → n ≤ 32
-unfolding question2
-few-stages n q = is-stage n 32 (ask-yes (leb 1 n && leb n 32) 2 0 0 q) .1
+-- What 2, 12 and 3 say where they passed.
+pub record Sized (n : ℕ) (e : ℤ) (held : ℕ) : Type 0 where
+  pub least : 1 ≤ n
+  pub few : n ≤ 32
+  pub unit : T (exponentInRange e)
+  pub pairs : held ≡ n * n
 
-all-pairs : (n held : ℕ) → question3 n held ≡ pass → held ≡ n * n
-unfolding question3
-all-pairs n held q = eqb→eq held (n * n) (ask-yes (eqb held (n * n)) 3 0 0 q)
-
--- What is known once they passed: few stages, and a number for each pair of them.
-size-passed : (n : ℕ) (e : ℤ) (held : ℕ) → sizeQuestions n e held ≡ pass → (n ≤ 32) × (held ≡ n * n)
-unfolding sizeQuestions
+size-passed : (n : ℕ) (e : ℤ) (held : ℕ) → sizeQuestions n e held ≡ pass → Sized n e held
+unfolding sizeQuestions question2 question12 question3
 size-passed n e held q =
-    let later = question12 e then question3 n held in (
-      few-stages n (then-first (question2 n) later q),
-      all-pairs n held (then-next (question12 e) (question3 n held) (then-next (question2 n) later q)),
-    )
+    let two = ask (leb 1 n && leb n 32) 2 0 0 in
+    let twelve = ask (exponentInRange e) 12 0 0 in
+    let three = ask (eqb held (n * n)) 3 0 0 in
+    let stages = is-stage n 32 (ask-yes (leb 1 n && leb n 32) 2 0 0 (then-first two (twelve then three) q)) in
+    let later = then-next two (twelve then three) q in
+    record {
+      least = stages .0;
+      few = stages .1;
+      unit = ask-yes (exponentInRange e) 12 0 0 (then-first twelve three later);
+      pairs = eqb→eq held (n * n) (ask-yes (eqb held (n * n)) 3 0 0 (then-next twelve three later));
+    }
 
-pub lengths-passed : (reading n : ℕ) (e : ℤ) (held : ℕ) → shapeQuestions reading n e held ≡ pass → (n ≤ 32) × (held ≡ n * n)
+pub sized : (reading n : ℕ) (e : ℤ) (held : ℕ) → shapeQuestions reading n e held ≡ pass → Sized n e held
 unfolding shapeQuestions
-lengths-passed reading n e held q = size-passed n e held (then-next (question1 reading) (sizeQuestions n e held) q)
-
-pub shape-few : (reading n : ℕ) (e : ℤ) (held : ℕ) → shapeQuestions reading n e held ≡ pass → n ≤ 32
-shape-few reading n e held q = lengths-passed reading n e held q .0
-
-pub unit-passed : (reading n : ℕ) (e : ℤ) (held : ℕ) → shapeQuestions reading n e held ≡ pass → T (exponentInRange e)
-unfolding shapeQuestions sizeQuestions question12
-unit-passed reading n e held q =
-    let unit = ask (exponentInRange e) 12 0 0 in
-    let later = unit then question3 n held in
-    ask-yes (exponentInRange e) 12 0 0 (then-first unit (question3 n held) (then-next (question2 n) later (then-next (question1 reading) (question2 n then later) q)))
+sized reading n e held q = size-passed n e held (then-next (question1 reading) (sizeQuestions n e held) q)
 
 -- What they come to, by the tests of the code.
 module _ (reading n : ℕ) (e : ℤ) (held : ℕ) where
@@ -110,13 +105,12 @@ unfolding question4
 room-held needed room e = leb→le needed room (ask-yes (leb needed room) 4 0 0 e)
 
 -- Saving has no further questions.
-pub save-passed : (reading n : ℕ) (e : ℤ) (held room : ℕ) → saveQuestions reading n e held room ≡ pass → (n ≤ 32) × (held ≡ n * n) × (fileLength n ≤ room) × T (exponentInRange e)
+pub save-passed : (reading n : ℕ) (e : ℤ) (held room : ℕ) → saveQuestions reading n e held room ≡ pass → Sized n e held × (fileLength n ≤ room)
 unfolding saveQuestions
 save-passed reading n e held room q =
     let shape = shapeQuestions reading n e held in
     let four = question4 (fileLength n) room in
-    let p = lengths-passed reading n e held (then-first shape four q) in
-    (p .0, p .1, room-held (fileLength n) room (then-next shape four q), unit-passed reading n e held (then-first shape four q))
+    (sized reading n e held (then-first shape four q), room-held (fileLength n) room (then-next shape four q))
 
 -- One column asks the first four of reading 1.
 same-again : (b : Bool) → (b && b) ≡ b
@@ -147,32 +141,33 @@ module _ (n stage : ℕ) where
 
 -- What is known of a column's call once its questions passed.
 column-shape-passed : (reading n : ℕ) (e : ℤ) (held room stage : ℕ) → columnShape reading n e held room stage ≡ pass
-    → (n ≤ 32) × (held ≡ n * n) × (n ≤ room) × ((1 ≤ stage) × (stage ≤ n))
+    → Sized n e held × (n ≤ room) × ((1 ≤ stage) × (stage ≤ n))
 unfolding columnShape
 column-shape-passed reading n e held room stage q =
     let size = sizeQuestions n e held in
     let last = question4 n room then question5 n stage stage in
     let later = then-next (columnReading reading) (size then last) q in
-    let p = size-passed n e held (then-first size last later) in
     let own = then-next size last later in
-    (p .0, p .1, room-held n room (then-first (question4 n room) (question5 n stage stage) own), one-stage n stage (then-next (question4 n room) (question5 n stage stage) own))
+    (size-passed n e held (then-first size last later), room-held n room (then-first (question4 n room) (question5 n stage stage) own), one-stage n stage (then-next (question4 n room) (question5 n stage stage) own))
+
+square : {n : ℕ} {e : ℤ} {sheet : List Float} → Sized n e (length sheet) → Square n sheet
+square s = record { few = s .few; held = s .pairs }
 
 module _ (reading n : ℕ) (e : ℤ) (sheet : List Float) where
   pub column-square : (room stage : ℕ) → columnShape reading n e (length sheet) room stage ≡ pass → Square n sheet
-  column-square room stage q = let p = column-shape-passed reading n e (length sheet) room stage q in record { few = p .0; held = p .1 }
+  column-square room stage q = square (column-shape-passed reading n e (length sheet) room stage q .0)
 
   pub column-input-passed : (room stage : ℕ) → columnInput reading n e sheet room stage ≡ pass → Square n sheet × (n ≤ room) × ((1 ≤ stage) × (stage ≤ n))
   unfolding columnInput
   column-input-passed room stage asked =
       let q = then-first (columnShape reading n e (length sheet) room stage) (numberQuestions 1 n sheet) asked in
       let p = column-shape-passed reading n e (length sheet) room stage q in
-      (column-square room stage q, p .2, p .3)
+      (square (p .0), p .1, p .2)
 
   pub shape-passed : (rest : Asked) → (shapeQuestions reading n e (length sheet) then rest) ≡ pass → Square n sheet × (rest ≡ pass)
   shape-passed rest q =
       let shape = shapeQuestions reading n e (length sheet) in
-      let p = lengths-passed reading n e (length sheet) (then-first shape rest q) in
-      (record { few = p .0; held = p .1 }, then-next shape rest q)
+      (square (sized reading n e (length sheet) (then-first shape rest q)), then-next shape rest q)
 
   -- The calls' own questions, 4 and 5, come next.
   pub table-input-passed : (room : ℕ) → tableInput reading n e sheet room ≡ pass → Square n sheet × (n * n ≤ room)
@@ -186,7 +181,7 @@ module _ (reading n : ℕ) (e : ℤ) (sheet : List Float) where
   unfolding moveInput
   move-unit room q =
       let shape = shapeQuestions reading n e (length sheet) in
-      unit-passed reading n e (length sheet) (then-first shape (question4 (n * n) room then placeQuestions reading n sheet) q)
+      sized reading n e (length sheet) (then-first shape (question4 (n * n) room then placeQuestions reading n sheet) q) .unit
 
   pub move-input-passed : (room : ℕ) → moveInput reading n e sheet room ≡ pass → Square n sheet × (n * n ≤ room) × (placeQuestions reading n sheet ≡ pass)
   unfolding moveInput

@@ -1,5 +1,5 @@
 -- `file_questions::unit_of` meets its contract. Assumes nothing.
-use mathlib.Core.Path.{_≡_, _∙_}
+use mathlib.Core.Path.{_≡_, sym, _∙_}
 use native.Mathlib.Omega.{arith}
 use mir.Syntax.{w64}
 use mir.ValLaws.{toZ-ofZ}
@@ -12,7 +12,7 @@ returns : tie.Need-returns
 unfolding recordLength
 returns c =
     let s = c .before .before .before in
-    old-unit (s .args .bytes .now) (s .pre .1) (omega (arith, c .before .field-at .ensures, c .if1 .taken))
+    sym (old-unit (s .args .bytes .now) (omega (arith, c .before .field-at .ensures, c .if1 .taken)))
 
 other : (c : tie.Else1) → recordLength (c .before .before .before .args .bytes .now) ≡ 4 → ⊥
 unfolding recordLength

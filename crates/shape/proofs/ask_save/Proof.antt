@@ -10,7 +10,7 @@ use Rattle.answers.proofs.Outcome.{passed, ends, goes-on}
 use Rattle.definitions.specs.Questions.{shapeQuestions}
 use Rattle.answers.specs.Outcome.{ComesTo}
 use Rattle.shape.proofs.Square.{square-small}
-use Rattle.shape.proofs.ShapeQuestions.{shape-few, bad-room, good-room}
+use Rattle.shape.proofs.ShapeQuestions.{sized, bad-room, good-room}
 use Rattle.shape.proofs.ask_save.Statement.{statement}
 use Rattle.shape.proofs.ask_save.Tie as tie
 
@@ -33,7 +33,7 @@ returns-3 c = goes-on (asked (c .before .before)) (c .before .if1 .left) (good-r
 -- The number of bytes fits.
 small : (c : tie.Else1) → (c .before .before .args .n ≤ 32) × (c .before .before .args .n * c .before .before .args .n ≤ 1024)
 small c =
-    let few = shape-few _ _ _ _ (passed (asked (c .before)) (c .if1 .left)) in
+    let few = sized _ _ _ _ (passed (asked (c .before)) (c .if1 .left)) .few in
     (few, square-small few)
 
 pub ask-save-spec : {M : Type 1} → statement M

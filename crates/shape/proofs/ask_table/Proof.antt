@@ -7,7 +7,7 @@ use Rattle.answers.proofs.Outcome.{passed, ends, goes-on}
 use Rattle.definitions.specs.Questions.{shapeQuestions}
 use Rattle.answers.specs.Outcome.{ComesTo}
 use Rattle.shape.proofs.Square.{square-small}
-use Rattle.shape.proofs.ShapeQuestions.{shape-few, bad-room, good-room}
+use Rattle.shape.proofs.ShapeQuestions.{sized, bad-room, good-room}
 use Rattle.shape.proofs.ask_table.Statement.{statement}
 use Rattle.shape.proofs.ask_table.Tie as tie
 
@@ -21,6 +21,6 @@ ask-table-spec =
     (tie.spec
     (λ c κs. search needs)
     (λ c. ends (asked (c .before)) _ (c .if1 .taken))
-    (λ c. omega (arith, square-small (shape-few _ _ _ _ (passed (asked (c .before)) (c .if1 .left)))))
+    (λ c. omega (arith, square-small (sized _ _ _ _ (passed (asked (c .before)) (c .if1 .left)) .few)))
     (λ c. goes-on (asked (c .before .before)) (c .before .if1 .left) (bad-room _ _ (c .if2 .taken)))
     (λ c. goes-on (asked (c .before .before)) (c .before .if1 .left) (good-room _ _ (c .if2 .left))))
