@@ -1,17 +1,16 @@
 #!/usr/bin/env python3
 """Times and errors of the proved services beside plain C and LAPACK, in one run on one machine.
 
-    python3 bench/run.py [--quick] [--no-errors] [--goals] [--sizes 2,4,8-12] [--against libhosts.a [--before-units]]
+    python3 bench/run.py [--quick] [--no-errors] [--goals] [--sizes 2,4,8-12] [--against libhosts.a]
 
 builds the proved library (`rt staticlib hosts`), bench/steps.c and bench/time.c into target/bench, checks
 that all give the same bits and decisions, and prints six parts: the time of a whole table, of sheets at the
 edge of the range, errors, the time of one column, of sheets with idle stages, and of moving a sheet to
-another time unit.  With --against the library of another commit runs beside it, and a last table says for
-each n whether sheets without idle stages take at most 1.03 of its time; --before-units says that its calls
-take no unit, which its symbols do not tell.  Standard library only; nothing is installed.  Exit status 1 if
-bits or decisions differ, or an error is above its allowance; with --goals also if one column takes more of
-the whole table's time than it should, or a sheet more of the other library's, which other work on the machine
-can bring about.
+another time unit.  With --against the library of another commit, whose calls take the same arguments, runs
+beside it, and a last table says for each n whether sheets without idle stages take at most 1.03 of its time.
+Standard library only; nothing is installed.  Exit status 1 if bits or decisions differ, or an error is above
+its allowance; with --goals also if one column takes more of the whole table's time than it should, or a sheet
+more of the other library's, which other work on the machine can bring about.
 """
 from __future__ import annotations
 
@@ -100,17 +99,7 @@ def renamed(archive: Path) -> Path:
     return one
 
 
-def other_flags(other: Optional[Path], before_units: bool) -> list[str]:
-    """What time.c is told of the other library, which has no column, no move or no units if it is older than these."""
-    if other is None:
-        return []
-    symbols = run(["nm", other]).stdout
-    later = {"-DOTHER_COLUMN": b" T yulanbowls_column\n", "-DOTHER_MOVE": b" T yulanbowls_move\n"}
-    return ["-DOTHER", *(["-DBEFORE_UNITS"] if before_units else []),
-            *(flag for flag, symbol in later.items() if symbol in symbols)]
-
-
-def build(other: Optional[Path], before_units: bool) -> Path:
+def build(other: Optional[Path]) -> Path:
     """The program of time.c with every candidate in it."""
     BUILD.mkdir(parents=True, exist_ok=True)
     build_library()
@@ -123,7 +112,7 @@ def build(other: Optional[Path], before_units: bool) -> Path:
         print("No OpenBLAS here, so LAPACK's rows are left out. On Debian this installs it:\n"
               "    apt-get install libopenblas-dev\n")
     program = BUILD / "time"
-    run(["cc", *COMMON, "-O2", *(["-DLAPACK"] if lapack else []), *other_flags(other, before_units),
+    run(["cc", *COMMON, "-O2", *(["-DLAPACK"] if lapack else []), *(["-DOTHER"] if other else []),
          "-I", ROOT / "include", ROOT / "bench" / "time.c", *objects, ARCHIVE, *(["-lopenblas"] if lapack else []),
          "-lm", "-o", program])
     return program
@@ -679,10 +668,7 @@ def parsed(arguments: Sequence[str]) -> argparse.Namespace:
                                                              "or a sheet without idle stages of the other library's")
     parser.add_argument("--sizes", default=None, metavar="N,N-N,..", help="the sizes where times are compared")
     parser.add_argument("--against", type=Path, default=None, metavar="ARCHIVE", help="another commit's libhosts.a")
-    parser.add_argument("--before-units", action="store_true", help="that library's calls take no unit")
     options = parser.parse_args(arguments)
-    if options.before_units and not options.against:
-        parser.error("--before-units is about the library that --against names")
     try:
         options.sizes = parsed_sizes(options.sizes) if options.sizes else SIZES
     except ValueError:
@@ -695,7 +681,7 @@ def parsed(arguments: Sequence[str]) -> argparse.Namespace:
 def main(arguments: Sequence[str]) -> int:
     """Builds, checks, prints; the exit status."""
     options = parsed(arguments)
-    program = build(options.against, options.before_units)
+    program = build(options.against)
     batches = 50 if options.quick else 2000
     beside = part_times(program, options.sizes, batches)
     part_slow_path(program, [8, 32], batches // 5)

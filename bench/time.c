@@ -68,46 +68,35 @@ static size_t proved_move(const struct group *g, size_t at, double *answer)
                            &moved_e, &row, &column);
 }
 
-/* The library of another commit, under another name. One from before units has no parameters for them. */
-#ifdef BEFORE_UNITS
-#define UNIT(parameter)
-#else
-#define UNIT(parameter) parameter,
-#endif
-
+/* The library of another commit, under other names. */
 #ifdef OTHER
-size_t other_table(size_t reading, size_t n, UNIT(int64_t e) const double *sheet, size_t sheet_len, double *answer,
+size_t other_table(size_t reading, size_t n, int64_t e, const double *sheet, size_t sheet_len, double *answer,
                    size_t answer_len, size_t *allowance, size_t *row, size_t *column);
+size_t other_column(size_t reading, size_t n, int64_t e, const double *sheet, size_t sheet_len, size_t stage,
+                    double *answer, size_t answer_len, size_t *allowance, size_t *row, size_t *column);
+size_t other_move(size_t reading, size_t n, int64_t e, const double *sheet, size_t sheet_len, int64_t k, double *area,
+                  size_t area_len, int64_t *moved_e, size_t *row, size_t *column);
 
 static size_t other(const struct group *g, size_t at, double *answer)
 {
     size_t allowance, row, column, places = g->n * g->n;
-    return other_table(g->reading, g->n, UNIT(IN_SECONDS) sheet_of(g, at), places, answer, places, &allowance, &row,
+    return other_table(g->reading, g->n, IN_SECONDS, sheet_of(g, at), places, answer, places, &allowance, &row,
                        &column);
 }
-#endif
-
-#ifdef OTHER_COLUMN
-size_t other_column(size_t reading, size_t n, UNIT(int64_t e) const double *sheet, size_t sheet_len, size_t stage,
-                    double *answer, size_t answer_len, size_t *allowance, size_t *row, size_t *column);
 
 static size_t other_one(const struct group *g, size_t at, double *answer)
 {
     size_t allowance, row, column;
-    return other_column(g->reading, g->n, UNIT(IN_SECONDS) sheet_of(g, at), g->n * g->n, (size_t)g->asked[at], answer,
+    return other_column(g->reading, g->n, IN_SECONDS, sheet_of(g, at), g->n * g->n, (size_t)g->asked[at], answer,
                         g->n, &allowance, &row, &column);
 }
-#endif
-
-#ifdef OTHER_MOVE
-size_t other_move(size_t reading, size_t n, UNIT(int64_t e) const double *sheet, size_t sheet_len, int64_t k,
-                  double *area, size_t area_len, UNIT(int64_t *moved_e) size_t *row, size_t *column);
 
 static size_t other_moved(const struct group *g, size_t at, double *answer)
 {
     size_t row, column, places = g->n * g->n;
-    return other_move(g->reading, g->n, UNIT(IN_SECONDS) sheet_of(g, at), places, g->asked[at], answer, places,
-                      UNIT(&(int64_t){0}) &row, &column);
+    int64_t moved_e;
+    return other_move(g->reading, g->n, IN_SECONDS, sheet_of(g, at), places, g->asked[at], answer, places, &moved_e,
+                      &row, &column);
 }
 #endif
 
@@ -176,13 +165,13 @@ static const struct candidate candidates[] = {
 #endif
     {"yulanbowls, whole table", proved, COLUMNS, 0},
     {"yulanbowls, one column", proved_column, COLUMNS, 1},
-#ifdef OTHER_COLUMN
+#ifdef OTHER
     {"other library, one column", other_one, COLUMNS, 1},
 #endif
     {"C -O3, one column", one_plain_O3, COLUMNS, 1},
     {"checked C -O3, one column", one_checked_O3, COLUMNS, 1},
     {"yulanbowls, moving", proved_move, MOVES, 0},
-#ifdef OTHER_MOVE
+#ifdef OTHER
     {"other library, moving", other_moved, MOVES, 0},
 #endif
     {"C -O3, moving", moved_plain_O3, MOVES, 0},
