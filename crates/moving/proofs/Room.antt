@@ -15,7 +15,7 @@ use Rattle.definitions.specs.Numbers.{_⊗_, _⊘_, all}
 use Rattle.definitions.specs.Questions.{exponentInRange}
 use Rattle.definitions.specs.Moving.{sheetHasRoom}
 use Rattle.rounding.specs.ResultRange.{sizeWithin}
-use Rattle.rounding.proofs.Words.{smallest-word, largest-word}
+use Rattle.rounding.proofs.Words.{zero-word, smallest-word, largest-word}
 use Rattle.rounding.proofs.SizeWithin.{room-down, room-up, least-limit, most-limit}
 use Rattle.steps.proofs.All.{all-below}
 use Rattle.moving.specs.Promises.{Movable}
@@ -25,6 +25,9 @@ product-at power sheet at other = sym (List·getD-map (λ number. number ⊗ pow
 
 -- ---- the test with moved limits is question 16
 -- The literals of the limits, as the program has them.
+abbrev none·word : Float
+none·word = ofBits binary64 0
+
 abbrev least·word : Float
 least·word = ofBits binary64 4503599627370496
 
@@ -44,9 +47,9 @@ module _ (sheet : List Float) where
       let small = suc-le-suc (leb→le j 511 (and-l (leb j 511) true (known .inRange))) in
       rw (known .is, smallest-word, least-limit j small, largest-word) (all-below _ _ (λ at l. room-down j (getD sheet at nan) (known .finites at l) (held at)))
 
-  pub by-most : (k : ℤ) {factor : Float} → Movable k factor sheet → ltZ k (pos 0) ≡ false → tests least·word (most·word ⊘ factor) ≡ sheetHasRoom k sheet
+  pub by-most : (k : ℤ) {factor : Float} → Movable k factor sheet → ltZ k (pos 0) ≡ false → tests none·word (most·word ⊘ factor) ≡ sheetHasRoom k sheet
   unfolding exponentInRange sheetHasRoom
   by-most (negsuc j) known t = absurd (true≢false t)
   by-most (pos j) known t =
-      rw (known .is, largest-word, most-limit j (leb→le j 512 (known .inRange)), smallest-word)
+      rw (known .is, largest-word, most-limit j (leb→le j 512 (known .inRange)), zero-word)
       (all-below _ _ (λ at l. room-up j (getD sheet at nan) (known .finites at l) (known .larges at l)))

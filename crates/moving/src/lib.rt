@@ -29,8 +29,8 @@ fn sizes_within(least: f64, most: f64, sheet: &[f64]) -> bool
     good
 }
 
-// Question 16, of the exact products: instead of each number the limits are moved, which is exact, and no
-// product is rounded. The number's own limits do for the other end.
+// Question 16, of the exact products: instead of each number the limit that it moves towards is moved, which is exact,
+// and no product is rounded. The other limit holds already: a finite number is at most the largest, and question 8 passed.
 fn has_room(k: i64, power: f64, sheet: &[f64]) -> bool
     requires { ⌜ Movable k power (now sheet) ⌝ }
     ensures { λ r. ⌜ r ≡ sheetHasRoom k (now (sheet .entry)) ⌝ }
@@ -42,11 +42,7 @@ fn has_room(k: i64, power: f64, sheet: &[f64]) -> bool
             sheet,
         );
     }
-    sizes_within(
-        2.2250738585072014e-308,
-        1.7976931348623157e308 / power,
-        sheet,
-    )
+    sizes_within(0.0, 1.7976931348623157e308 / power, sheet)
 }
 
 // Every number times the power, in the first places of the area.

@@ -13,7 +13,7 @@ use lib.Ieee.Fits.{up-pos, down-pos, and-i, and-l, and-r, eq→eqb}
 use lib.Ieee.Bits.{is-true}
 use lib.Ieee.Positive.{through, first-pos}
 use Rattle.exact.proofs.Bools.{same-truth, or-l, or-r, or-cases, or-not}
-use Rattle.definitions.specs.Numbers.{_⊘_, smallest, largest, finite, isZero}
+use Rattle.definitions.specs.Numbers.{_⊘_, 0·0, smallest, largest, finite, isZero}
 use Rattle.definitions.specs.Questions.{largeEnough}
 use Rattle.definitions.specs.Moving.{timesPower, hasRoom}
 use Rattle.rounding.specs.Scaling.{power}
@@ -114,6 +114,24 @@ module _ (a : ℕ) (c : ℤ) (s : Bool) (m : ℕ) (e : ℤ) where
   unfolding neg
   at-most-is = at-most-size
 
+-- No size is below zero.
+at-least-zero : (s : Bool) (m : ℕ) (e : ℤ) → T (atLeast 0·0 (fin s m e))
+unfolding le lt eq neg
+at-least-zero s m e = by-sign s
+  where
+    bound : ℕ
+    bound = 0 * 1 * down e
+
+    own : ℕ
+    own = m * up e * 1
+
+    large : T (leb bound own)
+    large = le→leb bound own (omega arith)
+
+    by-sign : (s : Bool) → T (atLeast 0·0 (fin s m e))
+    by-sign true = or-r (isZero (fin true m e) || le 0·0 (fin true m e)) (le (fin true m e) (neg 0·0)) (rw (turned own bound, le-plus bound own) large)
+    by-sign false = or-l (isZero (fin false m e) || le 0·0 (fin false m e)) (le (fin false m e) (neg 0·0)) (or-r (isZero (fin false m e)) (le 0·0 (fin false m e)) (rw (le-plus bound own) large))
+
 -- ---- a weaker limit passes too: a' / c' is at most a / c
 module _ (a : ℕ) (c : ℤ) (a' : ℕ) (c' : ℤ) (less : a' * up c' * down c ≤ a * up c * down c') (s : Bool) (m : ℕ) (e : ℤ) where
   at-least-less : 0 < a → 0 < a' → T (atLeast (fin false a c) (fin s m e)) → T (atLeast (fin false a' c') (fin s m e))
@@ -173,7 +191,7 @@ some-left k m e m' e' p M =
     let right = mul-pos (mul-pos (mul-pos M (up-pos e)) (up-pos k)) (down-pos e') in
     first-pos m' (up e') (first-pos (m' * up e') (down e * down k) (rw p right))
 
--- Towards zero the upper limit passes, away from zero the lower one, and x's own limits in their place.
+-- Towards zero the upper limit passes, and so does x's own in its place; away from zero the lower one passes.
 module _ (s : Bool) (m : ℕ) (e : ℤ) (j : ℕ) where
   wider : T (fits binary64 (fin s m e)) → T (atMost (timesPower (pos j) largest) (fin s m e))
   wider t =
@@ -195,14 +213,14 @@ room-down j (fin s m e) f t =
     ap (λ (b : Bool). atLeast (timesPower (pos (suc j)) smallest) x && b) (is-true (atMost largest x) (held-at-most s m e t) ∙ sym (is-true (atMost most x) (wider s m e (suc j) t)))
     ∙ sym (room-moved (negsuc j) x)
 
-pub room-up : (j : ℕ) (x : Float) → T (finite x) → T (largeEnough x) → sizeWithin smallest (timesPower (negℤ (pos j)) largest) x ≡ hasRoom (timesPower (pos j) x)
+pub room-up : (j : ℕ) (x : Float) → T (finite x) → T (largeEnough x) → sizeWithin 0·0 (timesPower (negℤ (pos j)) largest) x ≡ hasRoom (timesPower (pos j) x)
 unfolding finite sizeWithin largeEnough
 room-up j nan f t = absurd f
 room-up j (inf s) f t = absurd f
 room-up j (fin s m e) f t =
     let x = fin s m e in
     let least = timesPower (negℤ (pos j)) smallest in
-    ap (λ (b : Bool). b && atMost (timesPower (negℤ (pos j)) largest) x) (is-true (atLeast smallest x) t ∙ sym (is-true (atLeast least x) (lower s m e j t)))
+    ap (λ (b : Bool). b && atMost (timesPower (negℤ (pos j)) largest) x) (is-true (atLeast 0·0 x) (at-least-zero s m e) ∙ sym (is-true (atLeast least x) (lower s m e j t)))
     ∙ sym (room-moved (pos j) x)
 
 -- ---- what has room is a number of binary64
