@@ -626,8 +626,8 @@ def part_moving(program: Path, sizes: Sequence[int], batches: int) -> None:
         check_answers("timing sheet" if at < len(timed) else "end of the range", group, found)
     print(f"6. Time of moving a sheet to another time unit, every number times 2^k, reading 1, best of {batches}\n"
           "batches of at least 20 microseconds; the rows take turns. Four dense sheets for each n. yulanbowls: all\n"
-          "questions and the writing of the second area. C: bench/steps.c, a loop that multiplies by ldexp(1, k), no\n"
-          "questions.\n")
+          "questions and the writing of the second area. C: bench/steps.c, no questions, a loop that multiplies by\n"
+          "ldexp(1, k), and one that calls ldexp for each number.\n")
     if len(failures) == before:
         moves = sum(len(group.sheets) for group in edges)
         print(f"Same bits and decisions as tools/reference.py on the timing sheets and on {moves} moves near an end of\n"

@@ -1,7 +1,7 @@
 /* The steps for leaving rates of document 01, in its order, in plain C: for the whole table, and for one column
    of it. run.py compiles this file several times: SUFFIX gives each build its own function names, and with
    CHECKED every range test of document 01 stands at its step. Questions 1 to 9 are not asked. Beside them, without
-   CHECKED, the product of a sheet and a power of two.
+   CHECKED, the product of a sheet and a power of two, in two ways.
 
    The working tables have 32 numbers to a row. s stands apart from the sizes t, so the loop over a row may
    run over the diagonal place of t: no step reads that place. */
@@ -112,6 +112,14 @@ int JOIN(move_, SUFFIX)(size_t n, const double *restrict sheet, int k, double *r
     double power = ldexp(1.0, k);
     for (size_t place = 0; place < n * n; place++)
         answer[place] = sheet[place] * power;
+    return 1;
+}
+
+/* The same number by number, without a power. */
+int JOIN(ldexp_, SUFFIX)(size_t n, const double *restrict sheet, int k, double *restrict answer)
+{
+    for (size_t place = 0; place < n * n; place++)
+        answer[place] = ldexp(sheet[place], k);
     return 1;
 }
 

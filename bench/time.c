@@ -16,7 +16,7 @@
 
 #include "yulanbowls.h"
 
-enum { LIMIT = 32, MOST = LIMIT * LIMIT, WORKSPACE = 64 * LIMIT, MOST_GROUPS = 256, MOST_CANDIDATES = 16 };
+enum { LIMIT = 32, MOST = LIMIT * LIMIT, WORKSPACE = 64 * LIMIT, MOST_GROUPS = 256, MOST_CANDIDATES = 17 };
 enum { TURN = 10 };                           /* batches of a group before the next group has its turn */
 enum { IN_SECONDS = 0 };                      /* the e of every sheet: no answer depends on it */
 static const double shortest_batch = 20000.0; /* nanoseconds: long beside what a look at the clock costs */
@@ -121,12 +121,14 @@ STEPS(plain_native)
 COLUMN_STEPS(plain_O3)
 COLUMN_STEPS(checked_O3)
 
-int move_plain_O3(size_t n, const double *sheet, int k, double *answer);
-
-static size_t moved_plain_O3(const struct group *g, size_t at, double *answer)
-{
-    return move_plain_O3(g->n, sheet_of(g, at), (int)g->asked[at], answer) ? 0 : 16;
-}
+#define MOVE(way)                                                                            \
+    int way##_plain_O3(size_t n, const double *sheet, int k, double *answer);                \
+    static size_t moved_by_##way(const struct group *g, size_t at, double *answer)           \
+    {                                                                                        \
+        return way##_plain_O3(g->n, sheet_of(g, at), (int)g->asked[at], answer) ? 0 : 16;    \
+    }
+MOVE(move)
+MOVE(ldexp)
 
 #ifdef LAPACK
 void dgetrf_(const int *m, const int *n, double *a, const int *lda, int *pivots, int *info);
@@ -174,7 +176,8 @@ static const struct candidate candidates[] = {
 #ifdef OTHER
     {"other library, moving", other_moved, MOVES, 0},
 #endif
-    {"C -O3, moving", moved_plain_O3, MOVES, 0},
+    {"C -O3, moving", moved_by_move, MOVES, 0},
+    {"C -O3, ldexp of each number", moved_by_ldexp, MOVES, 0},
 };
 #define CANDIDATES (sizeof candidates / sizeof candidates[0])
 _Static_assert(CANDIDATES <= MOST_CANDIDATES, "room for every candidate");

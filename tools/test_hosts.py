@@ -560,6 +560,13 @@ class MoveTest(HostTest):
                 for k in POWERS_OUT_OF_RANGE:
                     self.assertEqual(self.move(reading, n, sheet, k), (15, 0, 0))
 
+    def test_every_power(self) -> None:
+        """1 by every k is 2^k, whose bits are k + 1,023 and 52 zeros."""
+        for k in range(-512, 513):
+            self.assertEqual(self.move(1, 1, [1.0], k), (0, 0, 0))
+            moved = reference.move(1, 1, reference.IN_SECONDS, [1.0], k, 1)
+            self.assertEqual([bits_of(x) for x in moved.numbers], [(k + 1023) << 52])
+
     def test_range_of_results(self) -> None:
         """For every second k the last number that is moved, at either end of the range, and the first that is not,
         at any place of a sheet."""

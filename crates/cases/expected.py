@@ -18,7 +18,7 @@ Idle stages: first, between others, last, many and alone, with zeros of either s
 entries and columns of an idle stage, and those beside it.
 Moving to another time unit: the questions in order, both ends of the range of k, of the new unit and of the results,
 zeros of either sign, sheets that no table takes, 32 stages, random sheets by the last k that moves them and the first
-that does not.
+that does not, and 1 by every k.
 Before an accepted table or column is written it is compared with the exact inverse by the accuracy rule.
 """
 from __future__ import annotations
@@ -580,7 +580,7 @@ def move_edges(rng: random.Random, count: int) -> Iterator[tuple[Sheet, int]]:
 
 def moves(rng: random.Random) -> Iterator[Case]:
     """Questions 1, 2, 12, 3 and 4 in order; the sheets above; 32 stages, once with a last number that cannot be moved
-    so far; random sheets by the last k that moves them and the first that does not."""
+    so far; random sheets by the last k that moves them and the first that does not; 1 by every k, which gives 2^k."""
     for reading, n, e, sheet, room in [(0, 0, 513, [NAN], 0), (3, 1, 0, [1.0], 1), (1, 33, 0, [1.0] * 1089, 5),
                                        (2, 2 ** 63, -513, [NAN], 0), (1, 2, 513, [NAN] * 3, 0),
                                        (2, 2, LEAST_INT64, [NAN] * 5, 0), (1, 2, 512, [NAN] * 3, 0),
@@ -593,6 +593,8 @@ def moves(rng: random.Random) -> Iterator[Case]:
     yield move_case(1, LIMIT, -10, sheet[:-1] + [LARGEST], 10, 1024)
     for (reading, n, sheet), k in move_edges(rng, 4):
         yield move_case(reading, n, IN_SECONDS, sheet, k, n * n + 1)
+    for k in range(-512, 513):
+        yield move_case(1, 1, IN_SECONDS, [1.0], k, 1)
 
 
 # ==== Files ====
