@@ -40,15 +40,20 @@ same-number (fin s m d) (fin t n e) h =
     rw (same-sign s t (and-l (Bool·beq s t) (eqb m n) both), eqb→eq m n (and-r (Bool·beq s t) (eqb m n) both), same-integer d e (and-r (Bool·beq s t && eqb m n) (sameInteger d e) h))
 
 -- ---- from 2^k on, the number at place i is 2^(k + i)
-each : (k : ℤ) (table : List Float) → T (doubles (power k) table) → (i : ℕ) → i < length table → getD table i nan ≡ power (k +ℤ pos i)
+first-is : (k : ℤ) (x : Float) (xs : List Float) → T (doubles (power k) (x ∷ xs)) → x ≡ power k
+unfolding doubles
+first-is k x xs t = same-number x (power k) (and-l (sameNumber x (power k)) _ t)
+
+others-double : (k : ℤ) (x : Float) (xs : List Float) → T (doubles (power k) (x ∷ xs)) → T (doubles (power (k +ℤ pos 1)) xs)
 unfolding doubles timesPower
+others-double k x xs t = rw (first-is k x xs t) at (and-r (sameNumber x (power k)) (doubles (timesPower (pos 1) x) xs) t)
+
+each : (k : ℤ) (table : List Float) → T (doubles (power k) table) → (i : ℕ) → i < length table → getD table i nan ≡ power (k +ℤ pos i)
 each k [] t i h = absurd (not-suc-le-zero h)
-each k (x ∷ xs) t zero h = same-number x (power k) (and-l (sameNumber x (power k)) (doubles (timesPower (pos 1) x) xs) t) ∙ ap power (sym (+ℤ-idr k))
+each k (x ∷ xs) t zero h = first-is k x xs t ∙ ap power (sym (+ℤ-idr k))
 each k (x ∷ xs) t (suc i) h =
-    let first = same-number x (power k) (and-l (sameNumber x (power k)) (doubles (timesPower (pos 1) x) xs) t) in
     let next : 1 + i ≡ suc i = omega arith in
-    each (k +ℤ pos 1) xs (rw first at (and-r (sameNumber x (power k)) (doubles (timesPower (pos 1) x) xs) t)) i (le-of-suc-le-suc h)
-    ∙ ap power (+ℤ-assoc k (pos 1) (pos i) ∙ ap (λ (j : ℕ). k +ℤ pos j) next)
+    each (k +ℤ pos 1) xs (others-double k x xs t) i (le-of-suc-le-suc h) ∙ ap power (+ℤ-assoc k (pos 1) (pos i) ∙ ap (λ (j : ℕ). k +ℤ pos j) next)
 
 -- ---- the place of each k
 pub in-table : (table : List Float) → T (doublingRule table) → (k : ℤ) → T (exponentInRange k) → (at : ℕ) → pos at ≡ k +ℤ pos 512 → at < length table
