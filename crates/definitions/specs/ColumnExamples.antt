@@ -1,52 +1,18 @@
 -- Columns to try (document 02, U2 and U3): calls with what they answer and leave, and one claim about all of them.
 use Prim.Native.Nat.{ℕ, _-_, _^_}
-use mathlib.Core.List.{List, [], _∷_, map}
-use mathlib.Core.Path.{_≡_}
-use lib.IntN.{ℤ, pos, negsuc}
-use lib.ListN.{length}
+use mathlib.Core.List.{List, [], _∷_}
+use lib.IntN.{pos, negsuc}
 use lib.Ieee.{Float, nan}
-use Rattle.definitions.specs.Services.{Answer, given, refused}
 use Rattle.definitions.specs.Column.{columnAnswer, columnArea}
 use Rattle.definitions.specs.Starred.{num, quo, minus}
+use Rattle.definitions.specs.Calls.{Line, Service, Claim, line, inUnit, gives, refuses}
 
--- A call: the sheet, the stage, the answer area before it; and what it answers, with the area after it.
-pub record Outcome : Type 0 where
-  pub answers : Answer ℕ
-  pub area : List Float
+-- What stands beside the sheet is the stage.
+abbrev ofColumn : Service ℕ ℕ
+ofColumn = record { answers = λ reading n e sheet stage room. columnAnswer reading n e sheet room stage; leaves = columnArea }
 
-pub record Line : Type 0 where
-  pub reading : ℕ
-  pub n : ℕ
-  pub e : ℤ
-  pub sheet : List Float
-  pub stage : ℕ
-  pub area : List Float
-  pub expected : Outcome
-
-unfoldable pub outcome : Line → Outcome
-outcome line =
-    record {
-      answers = columnAnswer (line .reading) (line .n) (line .e) (line .sheet) (length (line .area)) (line .stage);
-      area = columnArea (line .reading) (line .n) (line .e) (line .sheet) (line .stage) (line .area);
-    }
-
-unfoldable pub ColumnClaim : List Line → Type 0
-ColumnClaim lines = map outcome lines ≡ map (λ line. line .expected) lines
-
--- An accepted call and what it fills the area with, and a refused one, which leaves it.
-abbrev gives : ℕ → List Float → Outcome
-gives allowed after = record { answers = given allowed; area = after }
-
-abbrev refuses : ℕ → ℕ → ℕ → List Float → Outcome
-refuses number row column area = record { answers = refused number row column; area = area }
-
-abbrev line : ℕ → ℕ → List Float → ℕ → List Float → Outcome → Line
-line reading n sheet stage area expected =
-    record { reading = reading; n = n; e = pos 0; sheet = sheet; stage = stage; area = area; expected = expected }
-
-abbrev inUnit : ℤ → Line → Line
-inUnit e line =
-    record { reading = line .reading; n = line .n; e = e; sheet = line .sheet; stage = line .stage; area = line .area; expected = line .expected }
+unfoldable pub ColumnClaim : List (Line ℕ ℕ) → Type 0
+ColumnClaim lines = Claim ofColumn lines
 
 -- Places before the call.
 abbrev three : List Float
@@ -68,7 +34,7 @@ tiny = quo 1 (2 ^ 600)
 abbrev pub most : Float
 most = num (2 ^ 1024 - 2 ^ 971)
 
-unfoldable pub columns : List Line
+unfoldable pub columns : List (Line ℕ ℕ)
 columns =
     line 1 2 P 1 three (gives 32 (num 1 ∷ num 1 ∷ num 9 ∷ []))
     ∷ line 1 2 P 2 three (gives 32 (num 1 ∷ num 2 ∷ num 9 ∷ []))

@@ -18,5 +18,6 @@ pub mod Dwell
 pub mod Starred
 pub mod ExactExamples
 pub mod FileExamples
+pub mod Calls
 pub mod ColumnExamples
 pub mod MovingExamples

@@ -1,54 +1,22 @@
 -- Sheets to move (document 02, U4 and U5): calls with what they answer and leave, and one claim about all of them.
 use Prim.Native.Nat.{ℕ, _-_, _*_, _^_}
-use mathlib.Core.List.{List, [], _∷_, map}
-use mathlib.Core.Path.{_≡_}
+use mathlib.Core.List.{List, [], _∷_}
 use lib.IntN.{ℤ, pos, negsuc}
-use lib.ListN.{length}
 use lib.Ieee.{Float, nan}
-use Rattle.definitions.specs.Services.{Answer, given, refused}
 use Rattle.definitions.specs.Moving.{moveAnswer, movedArea}
 use Rattle.definitions.specs.Starred.{num, quo, minus}
+use Rattle.definitions.specs.Calls.{Outcome, Line, Service, Claim, line, inUnit, gives, refuses}
 use Rattle.definitions.specs.ColumnExamples.{one, P, most}
 
--- A call: the sheet, k, the second area before it; and what it answers, with that area after it.
-pub record Outcome : Type 0 where
-  pub answers : Answer ℤ
-  pub area : List Float
+-- What stands beside the sheet is k.
+abbrev ofMoving : Service ℤ ℤ
+ofMoving = record { answers = moveAnswer; leaves = movedArea }
 
-pub record Line : Type 0 where
-  pub reading : ℕ
-  pub n : ℕ
-  pub e : ℤ
-  pub sheet : List Float
-  pub k : ℤ
-  pub area : List Float
-  pub expected : Outcome
-
-unfoldable pub outcome : Line → Outcome
-outcome line =
-    record {
-      answers = moveAnswer (line .reading) (line .n) (line .e) (line .sheet) (line .k) (length (line .area));
-      area = movedArea (line .reading) (line .n) (line .e) (line .sheet) (line .k) (line .area);
-    }
-
-unfoldable pub MoveClaim : List Line → Type 0
-MoveClaim lines = map outcome lines ≡ map (λ line. line .expected) lines
-
--- An accepted call, the unit that it hands over and what it fills the area with, and a refused one, which leaves it.
-abbrev gives : ℤ → List Float → Outcome
-gives e after = record { answers = given e; area = after }
-
-abbrev refuses : ℕ → ℕ → ℕ → List Float → Outcome
-refuses number row column area = record { answers = refused number row column; area = area }
-
-abbrev line : ℕ → ℕ → List Float → ℤ → List Float → Outcome → Line
-line reading n sheet k area expected = record { reading = reading; n = n; e = pos 0; sheet = sheet; k = k; area = area; expected = expected }
-
-abbrev inUnit : ℤ → Line → Line
-inUnit e line = record { reading = line .reading; n = line .n; e = e; sheet = line .sheet; k = line .k; area = line .area; expected = line .expected }
+unfoldable pub MoveClaim : List (Line ℤ ℤ) → Type 0
+MoveClaim lines = Claim ofMoving lines
 
 -- One stage, with an area of one place.
-abbrev single : ℕ → Float → ℤ → Outcome → Line
+abbrev single : ℕ → Float → ℤ → Outcome ℤ → Line ℤ ℤ
 single reading number k expected = line reading 1 (number ∷ []) k one expected
 
 -- Places before the call.
@@ -58,7 +26,7 @@ five = num 5 ∷ num 6 ∷ num 7 ∷ num 8 ∷ num 9 ∷ []
 abbrev H : List Float
 H = num 3 ∷ minus (num 1) ∷ minus (num 4) ∷ num 1 ∷ []
 
-unfoldable pub moveLines : List Line
+unfoldable pub moveLines : List (Line ℤ ℤ)
 moveLines =
     line 1 2 P (pos 10) five (gives (pos 10) (num 1024 ∷ minus (num 1024) ∷ minus (num 1024) ∷ num 0 ∷ num 9 ∷ []))
     ∷ line 2 2 H (negsuc 0) five (gives (negsuc 0) (quo 3 2 ∷ minus (quo 1 2) ∷ minus (num 2) ∷ quo 1 2 ∷ num 9 ∷ []))
