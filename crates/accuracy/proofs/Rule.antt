@@ -26,13 +26,13 @@ use Rattle.definitions.specs.Sheet.{size, diagonal, takesPart, allowance}
 use Rattle.definitions.specs.Matrix.{matrix, everyStage}
 use Rattle.definitions.specs.Table.{liveCount, liveSystem, liveBegun, entry, everyStepInRange}
 use Rattle.definitions.specs.Fractions.{Fraction}
-use Rattle.definitions.specs.Accuracy.{Binary64, Within, OnlyInverse, extended, Accurate, AccurateColumn, AccuracyRule}
+use Rattle.definitions.specs.Accuracy.{Binary64, OnlyInverse, extended, Accurate, AccurateColumn, AccuracyRule}
 use Rattle.definitions.specs.Column.{columnInput, columnOf, columnInRange, columnQuestions}
 use Rattle.accuracy.specs.ColumnRule.{InverseRule, ColumnRule}
 use Rattle.definitions.specs.Questions.{pass, ask, question1, question4, question10, numberQuestions, tableInput, tableQuestions, Accepted, _then_}
 use Rattle.rounding.specs.Good.{one·units}
 use Rattle.rates_accuracy.specs.LeavingRatesAccuracy.{identityColumn, EngineWithin, EngineAccuracy}
-use Rattle.inverse.specs.Reduction.{delta, Apart, fraction, EntryReduction}
+use Rattle.inverse.specs.Reduction.{delta, Apart, fraction, NearFraction, EntryReduction, NearInverse, TableReduction}
 use Rattle.inverse.specs.ExactRatios.{RatiosExist}
 use Rattle.inverse.specs.RowForms.{InUnits}
 use Rattle.inverse.specs.ReducedReadings.{LeavingRatesInverse, MarginsReduced}
@@ -46,7 +46,7 @@ use Rattle.steps.proofs.LiveStages.{entry-live, entry-idle, column-of-live}
 use Rattle.rates_accuracy.proofs.LeavingRatesRange.{table-shared, table-column}
 use Rattle.rates_accuracy.proofs.LeavingRatesAccuracy.{engine-accuracy}
 use Rattle.inverse.proofs.ExactRatios.{ratios-exist}
-use Rattle.inverse.proofs.Reduction.{entry-reduction, zero-within}
+use Rattle.inverse.proofs.Reduction.{near-fraction, zero-near, entry-reduction, table-reduction}
 use Rattle.inverse.proofs.ReducedReadings.{leaving-rates-inverse, margins-reduced}
 use Rattle.margins_accuracy.proofs.MarginsAccuracy.{margins-accuracy}
 use Rattle.exact.proofs.Run.{cube}
@@ -91,9 +91,9 @@ module _ (n : ℕ) (sheet : List Float) (fit : Binary64 sheet) (e : numberQuesti
         (λ s. rw (eq-eqb p (rank on j) s, eq-eqb (stage on n p) j (ap (stage on n) s ∙ stage-of-rank on n j hj oj)))
         (λ o. rw (ne-eqb p (rank on j) o, ne-eqb (stage on n p) j (λ s. o (sym (listed on n p l .place) ∙ ap (rank on) s))))
 
-    quotient-within : (i : ℕ) → i < n → on i ≡ true → Within (allowance 1 n) (quotient (liveCount n sheet) (liveBegun n sheet) (rank on i) (rank on j)) (X i j)
-    unfolding EngineAccuracy EngineWithin EntryReduction X allowance liveCount liveBegun
-    quotient-within i hi oi =
+    quotient-near : (i : ℕ) → i < n → on i ≡ true → NearFraction (allowance 1 n) (quotient (liveCount n sheet) (liveBegun n sheet) (rank on i) (rank on j)) (X i j)
+    unfolding EngineAccuracy EngineWithin X allowance liveCount liveBegun
+    quotient-near i hi oi =
         let r = rank on n in
         let at = downward r (liveSystem n sheet) in
         let computed =
@@ -102,30 +102,29 @@ module _ (n : ℕ) (sheet : List Float) (fit : Binary64 sheet) (e : numberQuesti
         (live-solves n sheet fit e (right j) (identityColumn (rank on j)) (solution j .0) (solution j .1) right-side (solution j .3)) (rank on i) (rank-below on n i hi oi)) in
         let few = rank-within on n in
         let cubes = mul-le-mul (mul-le-mul few few) few in
-        entry-reduction (4 * n ^ 3) (quotient r at (rank on i) (rank on j)) (solution j .1 i) (solution j .0) (solution j .2) (computed .good)
-        (near-grow {e = 2 * (r * r * r)} (omega (arith, cube n, cubes)) (computed .near))
+        near-fraction (solution j .2) (computed .good) (near-grow {e = 2 * (r * r * r)} (omega (arith, cube n, cubes)) (computed .near))
 
     -- Under its own number in the sheet.
-    live-within : (i : ℕ) → i < n → on i ≡ true → Within (allowance 1 n) (entry 1 n sheet i j) (X i j)
-    live-within i hi oi = rw (entry-live n sheet i j oi oj) (quotient-within i hi oi)
+    live-near : (i : ℕ) → i < n → on i ≡ true → NearFraction (allowance 1 n) (entry 1 n sheet i j) (X i j)
+    live-near i hi oi = rw (entry-live n sheet i j oi oj) (quotient-near i hi oi)
 
   -- "Zero in an idle row or column."
-  idle-within : (i j : ℕ) → (on i && on j) ≡ false → Within (allowance 1 n) (entry 1 n sheet i j) (extended on X i j)
+  idle-near : (i j : ℕ) → (on i && on j) ≡ false → NearFraction (allowance 1 n) (entry 1 n sheet i j) (extended on X i j)
   unfolding extended
-  idle-within i j f = rw (entry-idle n sheet i j f, f) (zero-within (allowance 1 n))
+  idle-near i j f = rw (entry-idle n sheet i j f, f) (zero-near (allowance 1 n))
 
-  column-within : (j : ℕ) → j < n → T (shared (liveCount n sheet) (liveBegun n sheet)) → (on j ≡ true → T (column (liveCount n sheet) (liveBegun n sheet) (rank on j)))
-      → (i : ℕ) → i < n → Within (allowance 1 n) (entry 1 n sheet i j) (extended on X i j)
+  column-near : (j : ℕ) → j < n → T (shared (liveCount n sheet) (liveBegun n sheet)) → (on j ≡ true → T (column (liveCount n sheet) (liveBegun n sheet) (rank on j)))
+      → (i : ℕ) → i < n → NearFraction (allowance 1 n) (entry 1 n sheet i j) (extended on X i j)
   unfolding extended
-  column-within j hj t u i hi =
+  column-near j hj t u i hi =
       by-bool (on i && on j)
       (λ both.
       let oj = and-second (on i) (on j) both in
-      rw both (live-within j hj oj t (u oj) i hi (and-first (on i) (on j) both)))
-      (λ f. idle-within i j f)
+      rw both (live-near j hj oj t (u oj) i hi (and-first (on i) (on j) both)))
+      (λ f. idle-near i j f)
 
   pub accurate-column : (j : ℕ) → j < n → T (columnInRange n sheet j) → AccurateColumn n on (allowance 1 n) (matrix 1 n sheet) j (λ i. entry 1 n sheet i j)
-  unfolding columnInRange
+  unfolding columnInRange EntryReduction
   accurate-column j hj t =
       let r = liveCount n sheet in
       let at = liveBegun n sheet in
@@ -133,18 +132,20 @@ module _ (n : ℕ) (sheet : List Float) (fit : Binary64 sheet) (e : numberQuesti
       record {
         X = X;
         exact = only-inverse;
-        within = column-within j hj (and-l (shared r at) (column r at c) t) (λ o. rw (column-of-live n sheet j o) at (and-r (shared r at) (column r at c) t));
+        within = λ i hi.
+            entry-reduction (allowance 1 n) (entry 1 n sheet i j) (extended on X i j)
+            (column-near j hj (and-l (shared r at) (column r at c) t) (λ o. rw (column-of-live n sheet j o) at (and-r (shared r at) (column r at c) t)) i hi);
       }
 
   -- The whole table: every column.
-  first-table : T (everyStepInRange 1 n sheet) → Accurate n on (allowance 1 n) (matrix 1 n sheet) (entry 1 n sheet)
+  first-table : T (everyStepInRange 1 n sheet) → NearInverse n on (allowance 1 n) (matrix 1 n sheet) (entry 1 n sheet)
   unfolding everyStepInRange liveCount
   first-table r =
       record {
         X = X;
         exact = only-inverse;
-        within = λ i j hi hj.
-            column-within j hj (table-shared (liveCount n sheet) (liveBegun n sheet) r)
+        entry = λ i j hi hj.
+            column-near j hj (table-shared (liveCount n sheet) (liveBegun n sheet) r)
             (λ o. table-column (liveCount n sheet) (liveBegun n sheet) r (rank on j) (rank-below on n j hj o)) i hi;
       }
 
@@ -156,7 +157,7 @@ inverse-rule n sheet fit e = (X n sheet fit e, only-inverse n sheet fit e)
 pub second-reading :
     (n : ℕ) (sheet : List Float) → Binary64 sheet → numberQuestions 2 n sheet ≡ pass
     → T (Margins.marginsInRange n (size n sheet) (diagonal n sheet))
-    → Accurate n everyStage (12 * (n * n * n)) (matrix 2 n sheet) (Margins.entry n (size n sheet) (diagonal n sheet))
+    → NearInverse n everyStage (12 * (n * n * n)) (matrix 2 n sheet) (Margins.entry n (size n sheet) (diagonal n sheet))
 unfolding MarginsAccuracy MarginsReduced RatiosExist
 second-reading n sheet fit e r =
     let t = size n sheet in
@@ -183,21 +184,24 @@ reading-is reading e =
 -- The table of reading 2 under the table's own names.
 second-table :
     (n : ℕ) (sheet : List Float) → Binary64 sheet → numberQuestions 2 n sheet ≡ pass → T (everyStepInRange 2 n sheet)
-    → Accurate n (takesPart 2 n sheet) (allowance 2 n) (matrix 2 n sheet) (entry 2 n sheet)
+    → NearInverse n (takesPart 2 n sheet) (allowance 2 n) (matrix 2 n sheet) (entry 2 n sheet)
 unfolding everyStepInRange entry allowance takesPart
 second-table n sheet fit e r =
-    subst (λ E. Accurate n everyStage (12 * E) (matrix 2 n sheet) (entry 2 n sheet)) (sym (cube n)) (second-reading n sheet fit e r)
+    subst (λ E. NearInverse n everyStage (12 * E) (matrix 2 n sheet) (entry 2 n sheet)) (sym (cube n)) (second-reading n sheet fit e r)
 
 -- Both readings at once, from the questions of the numbers and the range of every step.
-pub accurate-table :
-    (reading n : ℕ) (sheet : List Float) → Binary64 sheet → question1 reading ≡ pass → numberQuestions reading n sheet ≡ pass
-    → T (everyStepInRange reading n sheet)
-    → Accurate n (takesPart reading n sheet) (allowance reading n) (matrix reading n sheet) (entry reading n sheet)
-accurate-table reading n sheet fit q e r =
-    ⊎-elim
-    (λ one. rw one (first-table n sheet fit (rw one at e) (rw one at r)))
-    (λ two. rw two (second-table n sheet fit (rw two at e) (rw two at r)))
-    (reading-is reading q)
+module _ (reading n : ℕ) (sheet : List Float) (fit : Binary64 sheet) (q : question1 reading ≡ pass) (e : numberQuestions reading n sheet ≡ pass)
+    (r : T (everyStepInRange reading n sheet)) where
+  pub near-table : NearInverse n (takesPart reading n sheet) (allowance reading n) (matrix reading n sheet) (entry reading n sheet)
+  near-table =
+      ⊎-elim
+      (λ one. rw one (first-table n sheet fit (rw one at e) (rw one at r)))
+      (λ two. rw two (second-table n sheet fit (rw two at e) (rw two at r)))
+      (reading-is reading q)
+
+  pub accurate-table : Accurate n (takesPart reading n sheet) (allowance reading n) (matrix reading n sheet) (entry reading n sheet)
+  unfolding TableReduction
+  accurate-table = table-reduction n (takesPart reading n sheet) (allowance reading n) (matrix reading n sheet) (entry reading n sheet) near-table
 
 pub accuracy-rule : AccuracyRule
 unfolding AccuracyRule Accepted tableQuestions tableInput question10

@@ -21,8 +21,8 @@ use Rattle.exact.proofs.Sums.{sum-add, sum-cong, zero-sum, sum-factor}
 use Rattle.definitions.specs.Fractions.{Fraction, _≈_, whole, _*ᶠ_, total}
 use Rattle.definitions.specs.Matrix.{Stage, everyStage, Inverse}
 use Rattle.definitions.specs.Numbers.{0·0, units}
-use Rattle.definitions.specs.Accuracy.{growth, extended, Within}
-use Rattle.inverse.specs.Reduction.{plusPart, minusPart, Ratio, delta, RowForm, Columns, Regular, Apart, fraction, InverseReduction, EntryReduction, Reduction, SystemInverse}
+use Rattle.definitions.specs.Accuracy.{growth, extended}
+use Rattle.inverse.specs.Reduction.{plusPart, minusPart, Ratio, delta, RowForm, Columns, Regular, Apart, fraction, InverseReduction, NearFraction, EntryReduction, NearInverse, TableReduction, Reduction, SystemInverse}
 use Rattle.inverse.proofs.PartialSums.{delta-other, delta-times, sum-delta, sum-mix}
 use Rattle.rounding.specs.Good.{Good, one·units}
 use Rattle.rounding.proofs.Laws.{one-pos, good-finite, zero-is-good, units-zero}
@@ -117,24 +117,37 @@ growth-ratio E = record { across = refl }
 pub fraction-ratio : (z d : ℕ) → 0 < d → Ratio (fraction z d) z 0 d
 fraction-ratio z d l = record { across = rw (max-one d l) (omega arith) }
 
-ratio-within : {E z d : ℕ} {x : Float} {y : Fraction} → 0 < d → Ratio y z 0 d → Good x → Near E (units x * d) (z * one·units) → Within E x y
-ratio-within {E} l r g h =
-    let v = value-ratio g in
-    record {
-      number = good-finite g;
-      x-sign = plain-sign one-pos v;
-      y-sign = plain-sign l r;
-      upper = plain-le one-pos (mul-pos l (base-pos E)) v (plain-mul r (growth-ratio E)) (omega (arith, h .upper));
-      lower = plain-le l (mul-pos one-pos (base-pos E)) r (plain-mul v (growth-ratio E)) (omega (arith, h .lower));
-    }
-
 pub entry-reduction : EntryReduction
 unfolding EntryReduction
-entry-reduction E x z d l g h = ratio-within l (fraction-ratio z d l) g h
+entry-reduction E x y a =
+    let v = value-ratio (a .good) in
+    record {
+      number = good-finite (a .good);
+      x-sign = plain-sign one-pos v;
+      y-sign = plain-sign (a .positive) (a .ratio);
+      upper = plain-le one-pos (mul-pos (a .positive) (base-pos E)) v (plain-mul (a .ratio) (growth-ratio E)) (omega (arith, a .near .upper));
+      lower = plain-le (a .positive) (mul-pos one-pos (base-pos E)) (a .ratio) (plain-mul v (growth-ratio E)) (omega (arith, a .near .lower));
+    }
+
+pub table-reduction : TableReduction
+unfolding TableReduction EntryReduction
+table-reduction n on E A x a =
+    record { X = a .X; exact = a .exact; within = λ i j l m. entry-reduction E (x i j) (extended on (a .X) i j) (a .entry i j l m) }
+
+pub near-fraction : {E z d : ℕ} {x : Float} → 0 < d → Good x → Near E (units x * d) (z * one·units) → NearFraction E x (fraction z d)
+near-fraction {z = z} {d} l g h = record { z = z; d = d; positive = l; ratio = fraction-ratio z d l; good = g; near = h }
 
 -- Plus zero where the rule's y is zero.
-pub zero-within : (E : ℕ) → Within E 0·0 (whole 0)
-zero-within E = ratio-within (lit< tt) (whole-ratio 0) zero-is-good (near-eq (rw (units-zero, zero-mul 1, zero-mul one·units)))
+pub zero-near : (E : ℕ) → NearFraction E 0·0 (whole 0)
+zero-near E =
+    record {
+      z = 0;
+      d = 1;
+      positive = lit< tt;
+      ratio = whole-ratio 0;
+      good = zero-is-good;
+      near = near-eq (rw (units-zero, zero-mul 1, zero-mul one·units));
+    }
 
 -- ---- the rule
 -- One row of Z·P against Z·Q + D·z.
@@ -193,12 +206,12 @@ inverse-reduction n on A a t c Z z rows apart columns regular =
     }
 
 pub reduction : Reduction
-unfolding Reduction InverseReduction EntryReduction Apart extended
+unfolding Reduction InverseReduction Apart extended
 reduction n E A x a t c Z z rows columns regular table =
     record {
       X = λ i j. fraction (z j i) (Z j);
       exact = inverse-reduction n everyStage A a t c Z z rows (λ i j s l o. absurd o) columns regular;
-      within = λ i j l m. entry-reduction E (x i j) (z j i) (Z j) (columns .positive j (record { below = m; part = tt })) (table .good i j l m) (table .near i j l m);
+      entry = λ i j l m. near-fraction (columns .positive j (record { below = m; part = tt })) (table .good i j l m) (table .near i j l m);
     }
 
 -- ---- a system that gets out

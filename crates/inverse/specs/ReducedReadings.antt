@@ -1,4 +1,4 @@
--- The rule of each reading from whole numbers: the one inverse of a sheet of reading 1, and the accuracy of a table of reading 2.
+-- The rule of each reading from whole numbers: the one inverse of a sheet of reading 1, and a table of reading 2 near its inverse.
 use mathlib.Core.Bool.{Bool}
 use mathlib.Core.List.{List}
 use mathlib.Core.Path.{_≡_}
@@ -6,9 +6,9 @@ use Prim.Native.Nat.{ℕ, _+_, _*_}
 use lib.Ieee.{Float}
 use Rattle.exact.specs.Systems.{Equations, AllOut}
 use Rattle.definitions.specs.Matrix.{matrix, Stage, everyStage}
-use Rattle.definitions.specs.Accuracy.{OnlyInverse, Accurate}
+use Rattle.definitions.specs.Accuracy.{OnlyInverse}
 use Rattle.rounding.specs.Good.{one·units}
-use Rattle.inverse.specs.Reduction.{Apart, Columns, fraction, SystemColumns, NearTable}
+use Rattle.inverse.specs.Reduction.{Apart, Columns, fraction, SystemColumns, NearTable, NearInverse}
 use Rattle.inverse.specs.ExactRatios.{H, ExactRatios}
 use Rattle.inverse.specs.RowForms.{InUnits}
 
@@ -33,4 +33,4 @@ MarginsReduced =
     → ExactRatios n t d D K
     → Columns n everyStage (λ i. d i * D + H n t D K i + t i i * D) (λ i j. t i j * D) (λ i. one·units * D) Z z
     → NearTable n E x Z z
-    → Accurate n everyStage E (matrix 2 n sheet) x
+    → NearInverse n everyStage E (matrix 2 n sheet) x

@@ -13,7 +13,7 @@ use Rattle.exact.specs.Systems.{Equations, diag, Solves, AllOut, withRight}
 use Rattle.definitions.specs.Numbers.{units}
 use Rattle.definitions.specs.Fractions.{Fraction}
 use Rattle.definitions.specs.Matrix.{Stage, everyStage}
-use Rattle.definitions.specs.Accuracy.{Within, OnlyInverse, Accurate}
+use Rattle.definitions.specs.Accuracy.{Within, OnlyInverse, extended, Accurate}
 use Rattle.rounding.specs.Good.{Good, one·units}
 
 -- An integer is the difference of its two parts.
@@ -72,17 +72,35 @@ InverseReduction =
     → Regular n on a t
     → OnlyInverse n on A (λ i j. fraction (z j i) (Z j))
 
--- Theorem, for one number x: good, and within E roundings of z/d.
+-- A number x beside a fraction y, in whole numbers: y is z/d, and x is good and within E roundings of it.
+pub record NearFraction (E : ℕ) (x : Float) (y : Fraction) : Type 0 where
+  pub z : ℕ
+  pub d : ℕ
+  pub positive : 0 < d
+  pub ratio : Ratio y z 0 d
+  pub good : Good x
+  pub near : Near E (units x * d) (z * one·units)
+
+-- Theorem: the rule's words hold of it.
 unfoldable pub EntryReduction : Type 0
-EntryReduction =
-    (E : ℕ) (x : Float) (z d : ℕ) → 0 < d → Good x → Near E (units x * d) (z * one·units) → Within E x (fraction z d)
+EntryReduction = (E : ℕ) (x : Float) (y : Fraction) → NearFraction E x y → Within E x y
+
+-- A table of such numbers beside the rule's y, from the one inverse X.
+pub record NearInverse (n : ℕ) (on : ℕ → Bool) (E : ℕ) (A : ℕ → ℕ → Fraction) (x : ℕ → ℕ → Float) : Type 0 where
+  pub X : ℕ → ℕ → Fraction
+  pub exact : OnlyInverse n on A X
+  pub entry : (i j : ℕ) → i < n → j < n → NearFraction E (x i j) (extended on X i j)
+
+-- Theorem: the rule holds of it.
+unfoldable pub TableReduction : Type 0
+TableReduction = (n : ℕ) (on : ℕ → Bool) (E : ℕ) (A : ℕ → ℕ → Fraction) (x : ℕ → ℕ → Float) → NearInverse n on E A x → Accurate n on E A x
 
 -- Each number of the table is good, and within E roundings of z_ji / Z_j.
 pub record NearTable (n E : ℕ) (x : ℕ → ℕ → Float) (Z : ℕ → ℕ) (z : ℕ → ℕ → ℕ) : Type 0 where
   pub good : (i j : ℕ) → i < n → j < n → Good (x i j)
   pub near : (i j : ℕ) → i < n → j < n → Near E (units (x i j) * Z j) (z j i * one·units)
 
--- Theorem: where every stage takes part, the rule of a whole table follows from the two.
+-- Theorem: where every stage takes part, these are such numbers.
 unfoldable pub Reduction : Type 0
 Reduction =
     (n E : ℕ) (A : ℕ → ℕ → Fraction) (x : ℕ → ℕ → Float)
@@ -91,7 +109,7 @@ Reduction =
     → Columns n everyStage a t c Z z
     → Regular n everyStage a t
     → NearTable n E x Z z
-    → Accurate n everyStage E A x
+    → NearInverse n everyStage E A x
 
 -- The columns as solutions of one system, whose right side is column j of the identity, times c_i.
 pub record SystemColumns (n : ℕ) (S : Equations) (c : ℕ → ℕ) (Z : ℕ → ℕ) (z : ℕ → ℕ → ℕ) : Type 0 where
