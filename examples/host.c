@@ -1,7 +1,8 @@
 /*
- * Prints the table of a sheet file by the proved library: host FILE, or host < FILE. With host FILE COPY the
- * sheet that was loaded is saved as COPY too. With host FILE COPY K it is moved to another time unit first, every
- * number times 2^K: K = -10 makes rates per second rates per tick, at 1,024 ticks a second, and the copy says so.
+ * Prints the table of a sheet file, and times that follow from it, by the proved library: host FILE, or host < FILE.
+ * With host FILE COPY the sheet that was loaded is saved as COPY too. With host FILE COPY K it is moved to another
+ * time unit first, every number times 2^K: K = -10 makes rates per second rates per tick, at 1,024 ticks a second, and
+ * the copy says so.
  *
  *   rt staticlib hosts
  *   cc -std=c99 -Wall -Wextra -pedantic -I include examples/host.c target/staticlib/libhosts.a -o target/host
@@ -62,6 +63,14 @@ static int print_last(const struct sheet *s)
     return 0;
 }
 
+static void print_times(const double *times, size_t n)
+{
+    for (size_t i = 0; i < n; i++) {
+        printf(" %.17g", times[i]);
+    }
+    printf("\n");
+}
+
 /* The times at the last stage from every stage, for a sheet of reading 1: a column of the table by itself. */
 static int print_column(const struct sheet *s)
 {
@@ -75,10 +84,27 @@ static int print_column(const struct sheet *s)
         return print_refusal(&no);
     }
     printf("at stage %zu from each stage:", s->n);
-    for (size_t i = 0; i < s->n; i++) {
-        printf(" %.17g", times[i]);
+    print_times(times, s->n);
+    return 0;
+}
+
+/* The times at all stages together, from every stage: the price of a request where each unit of time costs 1. */
+static int print_totals(const struct sheet *s)
+{
+    double prices[YULANBOWLS_STAGES], times[YULANBOWLS_STAGES];
+    size_t allowance;
+    struct refusal no;
+
+    for (size_t j = 0; j < s->n; j++) {
+        prices[j] = 1.0;
     }
-    printf("\n");
+    no.number = yulanbowls_prices(s->reading, s->n, s->e, s->numbers, s->n * s->n, prices, s->n, times,
+                                  YULANBOWLS_STAGES, &allowance, &no.row, &no.column);
+    if (no.number != 0) {
+        return print_refusal(&no);
+    }
+    printf("at all stages from each stage:");
+    print_times(times, s->n);
     return 0;
 }
 
@@ -94,10 +120,10 @@ static int print_sheet(const struct sheet *s)
         return print_refusal(&no);
     }
     print_table(s, table, allowance);
-    if (print_last(s) != 0) {
+    if (print_last(s) != 0 || (s->reading == 1 && print_column(s) != 0)) {
         return 1;
     }
-    return s->reading == 1 ? print_column(s) : 0;
+    return print_totals(s);
 }
 
 static int save_sheet(const struct sheet *s, const char *name)

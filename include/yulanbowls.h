@@ -22,16 +22,16 @@
  *   and `*column` are then those of the refusal, 0 and 0 where it has none and where the call is accepted. A
  *   refused call changes nothing else: every other out place and every place of a lent area keep what they
  *   held. The reasons that a call can be refused for are looked for in this order, each in the whole sheet before
- *   the next: 1, 2, 12, then 3 to 10, then 15, 17, 16. In a file 11 to 13 are looked for record by record, then
- *   14 and then 4. The first decides.
+ *   the next: 1, 2, 12, 3, 4, 18, 5 to 9, 19, 10, then 15, 17, 16. In a file 11 to 13 are looked for record by
+ *   record, then 14 and then 4. The first decides.
  *
  *   number  the call is refused because                                          row, column
  *        1  the reading is neither 1 nor 2, or, for a column, is not 1            0, 0
  *        2  n is below 1 or above 32                                              0, 0
  *        3  the sheet has more or fewer than n * n numbers                        0, 0
- *        4  the area has room for fewer than n * n numbers, or, for a column,     0, 0
- *           for fewer than n, or, in saving, for fewer than 12 + n * (8n + 8)
- *           bytes
+ *        4  the area has room for fewer than n * n numbers, or, for a column      0, 0
+ *           and for prices, for fewer than n, or, in saving, for fewer than
+ *           12 + n * (8n + 8) bytes
  *        5  a stage that is asked for is below 1 or above n                       0, 0
  *        6  a number is an infinity or a NaN                                      of the first such number
  *        7  a number has the wrong sign: off the diagonal it is above zero,       of the first such number
@@ -51,10 +51,13 @@
  *       16  the exact product of 2^k and a number that is not zero is larger      0, 0
  *           in size than the largest finite number, or smaller than 2^-1022
  *       17  e + k is below -512 or above 512                                      0, 0
+ *       18  there are more or fewer than n prices                                 0, 0
+ *       19  a price is an infinity or a NaN, negative, or not zero and smaller    the first such price's
+ *           than 2^-1022                                                          number, 0
  *
  *   yulanbowls_table can return 1 to 4, 6 to 10 and 12, yulanbowls_entry 1 to 3, 5 to 10 and 12, yulanbowls_column
- *   1 to 10 and 12, the two readers of files 4 and 11 to 14, the two writers 1 to 4 and 12, and yulanbowls_move
- *   1 to 4, 6 to 8, 12 and 15 to 17.
+ *   1 to 10 and 12, yulanbowls_prices 1 to 4, 6 to 10, 12, 18 and 19, the two readers of files 4 and 11 to 14, the
+ *   two writers 1 to 4 and 12, and yulanbowls_move 1 to 4, 6 to 8, 12 and 15 to 17.
  *
  * What the caller owes, in every call (nothing tests it)
  *   - Each pointer is not null, is aligned for its type, and points to as many numbers or bytes as the
@@ -122,6 +125,22 @@ size_t yulanbowls_entry(size_t reading, size_t n, int64_t e,
 size_t yulanbowls_column(size_t reading, size_t n, int64_t e,
                          const double *sheet, size_t sheet_length,
                          size_t stage,
+                         double *answer, size_t answer_length,
+                         size_t *allowance, size_t *row, size_t *column);
+
+/*
+ * The price of a request by the stage at which it enters. `prices` are n prices per unit of 2^e seconds, price j for
+ * the time at stage j, each zero or positive; a zero of either sign is a zero. `answer` needs room for n numbers.
+ * Accepted: place i of its first n places holds the price of a request that enters at stage i, which is the sum of
+ * the entries (i, j) of the table times price j, from plus zero and with j rising, each operation rounded once; later
+ * places are unchanged. A request that enters at an idle stage costs plus zero. `*allowance` is E = 4n^3 + n (reading
+ * 1) or 12n^3 + n (reading 2): each number is within a factor (1 + 2^-53)^E of the exact price, which is the sum of
+ * the entries of the exact inverse times the prices, zero in an idle row or column. Refused with 10 wherever the
+ * whole table is, and where a product or a sum of the prices leaves the range.
+ */
+size_t yulanbowls_prices(size_t reading, size_t n, int64_t e,
+                         const double *sheet, size_t sheet_length,
+                         const double *prices, size_t prices_length,
                          double *answer, size_t answer_length,
                          size_t *allowance, size_t *row, size_t *column);
 

@@ -222,6 +222,21 @@ def some_power(rng: random.Random, words: Sequence[int]) -> int:
     return reference.random_power(rng, [reference.number_of(word) for word in words])
 
 
+def some_prices(rng: random.Random, sheet: Sheet) -> list[int]:
+    """Unit prices, one for each stage: mostly good ones, about 1, at an end of the range, or one last place to either
+    side of the edge of acceptance; some damaged, or not n in number."""
+    n, kind = min(sheet.n, 33), rng.random()
+    numbers = [edge_number(rng) for _ in range(n)] if kind < 0.2 else reference.random_prices(rng, n)
+    if kind > 0.98 and 1 <= n <= 3 and len(sheet.words) == n * n:
+        pair = reference.price_edge_pair(rng, sheet.reading, n, [reference.number_of(word) for word in sheet.words],
+                                         numbers)
+        numbers = rng.choice(pair) if pair else numbers
+    words = [bits_of(x) for x in numbers]
+    if words and rng.random() < 0.15:
+        words = damaged(rng, words)
+    return rng.choice([words[:-1], words + [0], [], words * 2]) if rng.random() < 0.04 else words
+
+
 def some_room(rng: random.Random, needed: int) -> int:
     """The length of an area for so many numbers: mostly enough."""
     kind = rng.random()
@@ -319,6 +334,14 @@ def call_column(calls: Calls, rng: random.Random) -> Outcome:
     return outcome(told[0], sheet.reading, sheet.n, sheet.words)
 
 
+def call_prices(calls: Calls, rng: random.Random) -> Outcome:
+    """Prices."""
+    sheet = some_sheet(rng)
+    prices = some_prices(rng, sheet)
+    told = calls.prices(sheet.reading, sheet.n, sheet.e, sheet.words, prices, some_room(rng, min(sheet.n, 33)))
+    return outcome(told[0], sheet.reading, sheet.n, sheet.words)
+
+
 def reader(name: str) -> Call:
     """One of the two readers of files."""
     def call(calls: Calls, rng: random.Random) -> Outcome:
@@ -372,6 +395,7 @@ EXPORTS: dict[str, tuple[Call, set[int]]] = {
     "yulanbowls_table": (call_table, {1, 2, 3, 4, 6, 7, 8, 9, 10, 12}),
     "yulanbowls_entry": (call_entry, {1, 2, 3, 5, 6, 7, 8, 9, 10, 12}),
     "yulanbowls_column": (call_column, {1, 2, 3, 4, 5, 6, 7, 8, 9, 10, 12}),
+    "yulanbowls_prices": (call_prices, {1, 2, 3, 4, 6, 7, 8, 9, 10, 12, 18, 19}),
     "yulanbowls_read_numbers": (reader("yulanbowls_read_numbers"), {4, 11, 12, 13, 14}),
     "yulanbowls_read_words": (reader("yulanbowls_read_words"), {4, 11, 12, 13, 14}),
     "yulanbowls_save_numbers": (writer("yulanbowls_save_numbers"), {1, 2, 3, 4, 12}),

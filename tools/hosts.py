@@ -21,7 +21,7 @@ from typing import Optional, Sequence, Union
 sys.dont_write_bytecode = True
 sys.path.insert(0, str(Path(__file__).resolve().parent))
 import reference  # noqa: E402
-from reference import Column, Loaded, Moved, Refused, Saved, Seconds, Table, bits_of, number_of  # noqa: E402
+from reference import Column, Loaded, Moved, Prices, Refused, Saved, Seconds, Table, bits_of, number_of  # noqa: E402
 
 ROOT = Path(__file__).resolve().parent.parent
 HEADER = ROOT / "include" / "yulanbowls.h"
@@ -165,8 +165,8 @@ class Calls:
         where the call is refused."""
         self.same(place.after(), place.content if word is None else packed([word % 2 ** 64]), what)
 
-    def filled(self, area: Lent, allowance: Lent, answer: Union[Table, Column, Refused]) -> None:
-        """The answer area and the allowance after a table or a column was asked for."""
+    def filled(self, area: Lent, allowance: Lent, answer: Union[Table, Column, Prices, Refused]) -> None:
+        """The answer area and the allowance after a table, a column or prices were asked for."""
         if isinstance(answer, Refused):
             entries, word = b"", None
         else:
@@ -204,6 +204,20 @@ class Calls:
         answer = reference.entry(reading, n, e, [number_of(word) for word in words], i, j)
         self.handed(seconds, bits_of(answer.value) if isinstance(answer, Seconds) else None, "seconds")
         self.same(sheet.after(), sheet.content, "sheet")
+        return self.refusal(number, row, column, answer)
+
+    def prices(self, reading: int, n: int, e: int, words: Sequence[int], given: Sequence[int], room: int) -> Told:
+        """The prices of a sheet's requests, the unit prices given by their 64-bit words, with an area of so many
+        places."""
+        sheet, prices, area = Lent(packed(words)), Lent(packed(given)), self.area(room)
+        allowance, row, column = self.place(), self.place(), self.place()
+        number = self.library.call("yulanbowls_prices", reading=reading, n=n, e=e, sheet=sheet, prices=prices,
+                                   answer=area, allowance=allowance, row=row, column=column)
+        answer = reference.request_prices(reading, n, e, [number_of(word) for word in words],
+                                          [number_of(word) for word in given], room)
+        self.filled(area, allowance, answer)
+        self.same(sheet.after(), sheet.content, "sheet")
+        self.same(prices.after(), prices.content, "prices")
         return self.refusal(number, row, column, answer)
 
     def read(self, name: str, data: bytes, room: int) -> Told:

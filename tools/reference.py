@@ -59,6 +59,13 @@ class Column:
 
 
 @dataclass(frozen=True)
+class Prices:
+    """The price of a request by its entry stage, with the allowance of these numbers."""
+    entries: list[float]
+    allowance: int
+
+
+@dataclass(frozen=True)
 class Seconds:
     """One entry of the table."""
     value: float
@@ -323,6 +330,11 @@ def allowance(reading: int, n: int) -> int:
     return (4 if reading == LEAVING_RATES else 12) * n ** 3
 
 
+def price_allowance(reading: int, n: int) -> int:
+    """That of prices (02, U7): "with n added to the exponent"."""
+    return allowance(reading, n) + n
+
+
 def ask_reading(reading: int) -> Optional[Refused]:
     """Question 1: is the reading 1 or 2?"""
     return None if reading in (LEAVING_RATES, MARGINS) else Refused(1)
@@ -434,6 +446,20 @@ def ask_results(sheet: Sequence[float], k: int) -> Optional[Refused]:
     return None if all(size == 0 or SMALLEST_NORMAL <= size <= LARGEST for size in sizes) else Refused(16)
 
 
+def ask_price_count(n: int, prices: Sequence[float]) -> Optional[Refused]:
+    """Question 18 (02, U7), asked after 4: are there n prices?"""
+    return None if len(prices) == n else Refused(18)
+
+
+def ask_prices(prices: Sequence[float]) -> Optional[Refused]:
+    """Question 19 (02, U7), asked after 9: is every price finite, not negative, and zero or at least 2^-1022?  One
+    search for all these faults; the first price that has one is the row."""
+    for j, price in enumerate(prices):
+        if not (math.isfinite(price) and price >= 0.0 and (price == 0.0 or price >= SMALLEST_NORMAL)):
+            return Refused(19, j + 1)
+    return None
+
+
 # ==== The services ====
 
 def invert(reading: int, n: int, sheet: Sequence[float]) -> Union[Matrix, Refused]:
@@ -489,6 +515,29 @@ def column(reading: int, n: int, e: int, sheet: Sequence[float], stage: int,
     except OutOfRange:
         return Refused(10)
     return Column(own_places(n, live, entries, 0.0), allowance(reading, n))
+
+
+def request_price(row: Sequence[float], prices: Sequence[float]) -> float:
+    """The price at a stage (02, U7): starts at plus zero and adds entry (i, j) times price j, j rising.  A price
+    that is a zero of either sign counts as plus zero."""
+    return running_sum(0.0, (mul(x, price + 0.0) for x, price in zip(row, prices, strict=True)))
+
+
+def request_prices(reading: int, n: int, e: int, sheet: Sequence[float], prices: Sequence[float],
+                   area_length: int) -> Union[Prices, Refused]:
+    """The price of a request by its entry stage (02, U7): questions 1, 2, 12, 3, 4 for n numbers, 18, 6 to 9, 19, and
+    10 of the whole table's steps and of these."""
+    refusal = (ask_sheet(reading, n, e, sheet) or ask_area(n, area_length) or ask_price_count(n, prices)
+               or ask_numbers(reading, n, sheet) or ask_prices(prices))
+    if refusal:
+        return refusal
+    x = invert(reading, n, sheet)
+    if isinstance(x, Refused):
+        return x
+    try:
+        return Prices([request_price(row, prices) for row in x], price_allowance(reading, n))
+    except OutOfRange:
+        return Refused(10)
 
 
 def move(reading: int, n: int, e: int, sheet: Sequence[float], k: int, area_length: int) -> Union[Moved, Refused]:
@@ -858,6 +907,22 @@ def column_accuracy(n: int, sheet: Sequence[float], columns: dict[int, Sequence[
             for stage, entries in columns.items() for i in range(n)]
 
 
+def exact_price(row: Sequence[Quotient], prices: Sequence[float]) -> Quotient:
+    """The sum of y_ij times price j, exactly."""
+    total = sum((Fraction(*y) * Fraction(price) for y, price in zip(row, prices, strict=True)), Fraction(0))
+    return total.numerator, total.denominator
+
+
+def price_accuracy(reading: int, n: int, sheet: Sequence[float], prices: Sequence[float],
+                   entries: Sequence[float]) -> list[EntryError]:
+    """Compares prices with the exact ones, those of the rule's y (02, U7: "The accuracy rule covers prices with n
+    added to the exponent"); their errors have column 0."""
+    low, high = exact_bounds(reading, n, sheet)
+    most = price_allowance(reading, n)
+    return [entry_error(i, -1, entries[i], exact_price(low[i], prices), exact_price(high[i], prices), most)
+            for i in range(n)]
+
+
 # ==== Random sheets ====
 
 @dataclass(frozen=True)
@@ -961,6 +1026,15 @@ def random_power(rng: random.Random, sheet: Sequence[float]) -> int:
     return rng.choice(near) if near and rng.random() < 0.6 else rng.randint(-FURTHEST_POWER, FURTHEST_POWER)
 
 
+def random_prices(rng: random.Random, n: int) -> list[float]:
+    """Prices that question 19 passes: about 1 or about some other power of two, often one at an end of the range, near
+    to one another or far apart, some of them zeros of either sign."""
+    middle = rng.choice([0, 0, -1000, 1000, rng.randint(-1000, 1000)])
+    spread, zeros = rng.choice([0, 3, 20]), rng.choice([0.0, 0.1, 0.5, 1.0])
+    return [random_zero(rng) if rng.random() < zeros else math.ldexp(random_size(rng, spread), middle)
+            for _ in range(n)]
+
+
 def random_unit(rng: random.Random) -> int:
     """The e of a sheet's unit: seconds, ticks of 1/1,024 second, an end of its range, or any other."""
     return rng.choice([IN_SECONDS, -10, -FURTHEST_POWER, FURTHEST_POWER, *(
@@ -1012,7 +1086,29 @@ def edge_pair(rng: random.Random, reading: int, n: int, sheet: list[float],
         return Refused(10) == (table(reading, n, IN_SECONDS, changed_sheet, n * n) if stage is None
                                else column(reading, n, IN_SECONDS, changed_sheet, stage, n))
 
-    accepted = bits_of(abs(sheet[place]))
+    edge = edge_of_range(rng, bits_of(abs(sheet[place])), out_of_range)
+    return (with_size(edge[0]), with_size(edge[1])) if edge else None
+
+
+def price_edge_pair(rng: random.Random, reading: int, n: int, sheet: Sequence[float],
+                    prices: Sequence[float]) -> Optional[tuple[list[float], list[float]]]:
+    """Accepted prices and some that are refused with 10, equal but for one price, there one last place apart; None
+    where acceptance never flips."""
+    place = rng.randrange(n)
+
+    def with_price(word: int) -> list[float]:
+        return [*prices[:place], number_of(word), *prices[place + 1:]]
+
+    def out_of_range(word: int) -> bool:
+        return Refused(10) == request_prices(reading, n, IN_SECONDS, sheet, with_price(word), n)
+
+    edge = edge_of_range(rng, bits_of(prices[place] or 1.0), out_of_range)
+    return (with_price(edge[0]), with_price(edge[1])) if edge else None
+
+
+def edge_of_range(rng: random.Random, accepted: int, out_of_range: Callable[[int], bool]) -> Optional[tuple[int, int]]:
+    """The words of two positive numbers, one last place apart, of which the second is out of range: from one that is
+    not towards an end of the range that is; None where there are no such two."""
     ends = [bits_of(SMALLEST_NORMAL), bits_of(LARGEST)]
     flipped = [word for word in rng.sample(ends, 2) if out_of_range(word)]
     if out_of_range(accepted) or not flipped:
@@ -1024,7 +1120,7 @@ def edge_pair(rng: random.Random, reading: int, n: int, sheet: list[float],
             refused = middle
         else:
             accepted = middle
-    return with_size(accepted), with_size(refused)
+    return accepted, refused
 
 
 # ==== Self-test.  Expected values come from the papers, from exact fractions or from a calculation by hand. ====
@@ -1108,6 +1204,15 @@ class Checks:
         self.equal(what, words_of(got.entries if isinstance(got, Column) else got), words_of(expected))
         if isinstance(got, Column):
             self.equal(f"{what}, allowance", got.allowance, 4 * n * n * n)
+
+    def prices(self, what: str, reading: int, n: int, sheet: Sequence[float], prices: Sequence[float],
+               expected: Union[Refused, Sequence[float]]) -> None:
+        """Prices, with just enough room and with more, are these bits with their allowance, or this refusal."""
+        for room in (n, n + 5):
+            got = request_prices(reading, n, self.unit(), sheet, prices, room)
+            self.equal(what, words_of(got.entries if isinstance(got, Prices) else got), words_of(expected))
+            if isinstance(got, Prices):
+                self.equal(f"{what}, allowance", got.allowance, (4 if reading == 1 else 12) * n * n * n + n)
 
     def moves(self, what: str, reading: int, n: int, sheet: Sequence[float], k: int,
               expected: Union[Refused, Sequence[float]]) -> None:
@@ -1611,6 +1716,119 @@ def test_units(check: Checks) -> None:
         check.equal(f"moving by 0, e = {e}", move(1, 2, e, P_SHEET, 0, 4), Moved(P_SHEET, e) if within else Refused(12))
 
 
+def test_price_documents(check: Checks) -> None:
+    """Prices (02, U7): sheets of the papers, the order of the sum, zeros of either sign, idle stages, and steps that
+    leave the range, by hand."""
+    chain, two_53 = [0.0, -1.0, 0.0, 0.0, 0.0, -1.0, 0.0, 0.0, 1.0], 2.0 ** 53
+    beyond, most, below = 2.0 ** 1022, LARGEST, 2.0 ** -1074
+    for what, reading, n, sheet, prices, expected in [
+            ("A", 1, 1, [2.0], [3.0], [1.5]), ("P", 1, 2, P_SHEET, [1.0, 2.0], [3.0, 5.0]),
+            ("P, one price", 1, 2, P_SHEET, [0.0, 1.0], [1.0, 2.0]), ("no price", 1, 2, P_SHEET, [0.0, 0.0], [0.0, 0.0]),
+            ("H", 2, 2, [3.0, -1.0, -4.0, 1.0], [1.0, 3.0], [1.25, 4.0]),
+            ("I", 2, 2, [2.0, 0.0, -1.0, 4.0], [8.0, 16.0], [4.0, 5.0]),
+            ("j rises", 1, 3, chain, [two_53, 1.0, 1.0], [two_53, 2.0, 1.0]),
+            ("j rises, the other way round", 1, 3, chain, [1.0, 1.0, two_53], [two_53 + 2.0, two_53, two_53]),
+            ("a product is rounded by itself", 1, 2, [0.0, -1.0, 0.0, 3.0], [1.0, 3.0], [2.0, 1.0]),
+            ("minus zero", 1, 2, P_SHEET, [-0.0, 1.0], [1.0, 2.0]),
+            ("only minus zeros", 1, 2, P_SHEET, [-0.0, -0.0], [0.0, 0.0]),
+            ("B", 1, 1, [0.0], [7.0], [0.0]), ("D", 1, 2, [1.0, 0.0, 0.0, 0.0], [5.0, 3.0], [5.0, 0.0]),
+            ("D, the idle stage's price alone", 1, 2, [1.0, 0.0, 0.0, 0.0], [0.0, 3.0], [0.0, 0.0]),
+            ("a product above 2^-1022", 1, 1, [1.0], [2 * SMALLEST_NORMAL], [2 * SMALLEST_NORMAL]),
+            ("a product that is 2^-1022", 1, 1, [1.0], [SMALLEST_NORMAL], Refused(10)),
+            ("a product that rounds to 2^-1022", 1, 1, [2.0], [(2 - 2.0 ** -52) * SMALLEST_NORMAL], Refused(10)),
+            ("a zero entry beside a small price", 1, 2, [1.0, 0.0, 0.0, 0.0], [1.0, SMALLEST_NORMAL], [1.0, 0.0]),
+            ("a product that overflows", 2, 1, [2.0 ** -600], [2.0 ** 600], Refused(10)),
+            ("the largest price", 1, 2, P_SHEET, [most, 0.0], [most, most]),
+            ("a sum that overflows", 1, 2, P_SHEET, [most, most], Refused(10)),
+            ("the table out of range, prices zero", 1, 2, [1.0, 0.0, 0.0, beyond], [1.0, 0.0], Refused(10)),
+            ("19 before 10", 1, 2, [1.0, 0.0, 0.0, beyond], [0.0, -1.0], Refused(19, 2)),
+            ("9 before 19", 1, 2, [1.0, -1.0, 0.0, 0.0], [NAN, NAN], Refused(9, 2)),
+            ("8 before 19", 1, 2, [1.0, -below, 0.0, 0.0], [NAN, NAN], Refused(8, 1, 2)),
+            ("7 before 19", 2, 1, [0.0], [-1.0], Refused(7, 1, 1)), ("6 before 19", 1, 1, [INF], [NAN], Refused(6, 1, 1)),
+            ("a NaN", 1, 2, P_SHEET, [NAN, -1.0], Refused(19, 1)), ("infinite", 1, 2, P_SHEET, [1.0, INF], Refused(19, 2)),
+            ("minus infinite", 2, 1, [1.0], [-INF], Refused(19, 1)), ("negative", 1, 2, P_SHEET, [1.0, -1.0], Refused(19, 2)),
+            ("too small", 1, 2, P_SHEET, [below, NAN], Refused(19, 1)),
+            ("just too small", 1, 1, [1.0], [number_of(bits_of(SMALLEST_NORMAL) - 1)], Refused(19, 1)),
+            ("negative and too small", 1, 2, P_SHEET, [0.0, -below], Refused(19, 2))]:
+        check.prices(what, reading, n, sheet, prices, expected)
+    check.equal("[NaN] with no prices", request_prices(1, 1, 0, [NAN], [], 1), Refused(18))
+
+
+def test_price_order(check: Checks) -> None:
+    """Prices: each question before the next, where both are answered no."""
+    for reading in (0, 3, 2 ** 64 - 1):
+        check.equal("1 before 2, prices", request_prices(reading, 0, 513, [], [], 0), Refused(1))
+        check.equal("1 of a good sheet, prices", request_prices(reading, 2, 0, P_SHEET, [1.0, 1.0], 2), Refused(1))
+    for reading in (1, 2):
+        for n in (0, 33, 2 ** 32, 2 ** 63, 2 ** 64 - 1):
+            check.equal("2 before 12, prices", request_prices(reading, n, -513, [NAN], [NAN], 0), Refused(2))
+        for e in POWERS_OUT_OF_RANGE:
+            check.equal(f"12 before 3, prices, e = {e}", request_prices(reading, 2, e, [NAN], [NAN], 0), Refused(12))
+            check.equal(f"12 alone, e = {e}", request_prices(reading, 1, e, [1.0], [1.0], 1), Refused(12))
+        for length in (0, 1, 3, 5):
+            check.equal("3 before 4, prices", request_prices(reading, 2, 512, [NAN] * length, [NAN], 0), Refused(3))
+        for room in (0, 1):
+            check.equal("4 before 18", request_prices(reading, 2, -512, [NAN] * 4, [NAN], room), Refused(4))
+        for length in (0, 1, 3, 4):
+            check.equal("18 before 6", request_prices(reading, 2, 0, [NAN] * 4, [NAN] * length, 2), Refused(18))
+            check.equal("18 alone", request_prices(reading, 2, 0, [1.0, 0.0, 0.0, 1.0], [1.0] * length, 2), Refused(18))
+
+
+def price_by_fractions(row: Sequence[float], prices: Sequence[float]) -> Optional[float]:
+    """A price by exact fractions, each result rounded by itself; None where a step leaves the range."""
+    total = Fraction(0)
+    try:
+        for x, price in zip(row, prices, strict=True):
+            exact = Fraction(x) * Fraction(price)
+            product = float(exact)
+            if exact != 0 and not product > SMALLEST_NORMAL:
+                return None
+            total = Fraction(float(total + Fraction(product)))
+    except OverflowError:
+        return None
+    return float(total)
+
+
+def check_prices(check: Checks, worst: Worst, n: int, sheet: Sequence[float], prices: Sequence[float]) -> bool:
+    """Prices of a sheet that 6 to 9 pass: they have the bits and the decision that exact fractions give for the rows
+    of its table, and keep the accuracy rule; whether they are accepted."""
+    whole = table(worst.reading, n, check.unit(), sheet, n * n)
+    if isinstance(whole, Refused):
+        check.prices("the table is refused", worst.reading, n, sheet, prices, Refused(10))
+        return False
+    rows = [whole.entries[i * n:i * n + n] for i in range(n)]
+    expected = [price_by_fractions(row, prices) for row in rows]
+    if None in expected:
+        check.prices(f"{sheet} at {prices}", worst.reading, n, sheet, prices, Refused(10))
+        worst.out_of_range += 1
+        return False
+    check.prices(f"{sheet} at {prices}", worst.reading, n, sheet, prices, expected)
+    errors = price_accuracy(worst.reading, n, sheet, prices, expected)
+    for error in errors:
+        check.true(f"accuracy of prices {prices} of {sheet}: {error}", error.within)
+    worst.note(n, errors)
+    return True
+
+
+def test_random_prices(check: Checks, rng: random.Random, long: bool) -> None:
+    """Random sheets of both readings, often with idle stages, at random prices and at prices at the edge of the range."""
+    for reading, name in ((LEAVING_RATES, "prices of leaving rates"), (MARGINS, "prices of margins")):
+        worst = Worst(reading, name)
+        for at in range(2000 if long else 400):
+            n = rng.randint(1, 6) if at % 100 else rng.randint(7, LIMIT if long else 12)
+            sheet = random_sheet(rng, reading, n, random_style(rng, 300 if n < 7 else 30))
+            total = n + rng.choice([0, 0, 1, 3]) if reading == LEAVING_RATES and n < 7 else n
+            sheet, prices = among_idle(rng, n, sheet, total)[1], random_prices(rng, total)
+            check_prices(check, worst, total, sheet, prices)
+            pair = price_edge_pair(rng, reading, total, sheet, prices) if at % 5 == 0 and total < 7 else None
+            if pair is not None:
+                worst.edges += 1
+                check.true("accepted at the edge", check_prices(check, worst, total, sheet, pair[0]))
+                check.prices("refused at the edge", reading, total, sheet, pair[1], Refused(10))
+        check.true("prices of each kind", min(worst.accepted, worst.out_of_range, worst.edges) > 20)
+        print(worst.line(), flush=True)
+
+
 def test_moving_units(check: Checks) -> None:
     """Moving: what e becomes, 17 at both ends of its range, and the order of 8, 15, 17 and 16."""
     for e, k, expected in [
@@ -2078,6 +2296,8 @@ def self_test(long: bool) -> int:
         test_column_range(check)
         test_trapped(check, rng)
         test_idle(check)
+        test_price_documents(check)
+        test_price_order(check)
         test_moving_documents(check)
         test_moving_order(check)
         test_moving_ends(check)
@@ -2091,6 +2311,7 @@ def self_test(long: bool) -> int:
         test_random_sheets(check, rng, long)
         test_random_columns(check, rng, long)
         test_random_idle(check, rng, long)
+        test_random_prices(check, rng, long)
         test_random_moves(check, rng, long)
     except Failed as failure:
         print(f"FAILED after {check.count} checks: {failure}")

@@ -79,6 +79,12 @@ class HostTest(unittest.TestCase):
         """Every column of a sheet of reading 1."""
         return [self.column(1, n, sheet, stage) for stage in range(1, n + 1)]
 
+    def prices(self, reading: int, n: int, sheet: Sequence[float], prices: Sequence[float], room: Optional[int] = None,
+               e: Optional[int] = None) -> Told:
+        """The prices of a sheet's requests with an area of so many places (n if not said)."""
+        words, given = [bits_of(x) for x in sheet], [bits_of(x) for x in prices]
+        return self.calls.prices(reading, n, self.unit(e), words, given, n if room is None else room)
+
     def sheet(self, reading: int, n: int, sheet: Sequence[float]) -> Told:
         """The whole table of a sheet, and its first and last entry, which is refused alike."""
         answer = self.table(reading, n, sheet)
@@ -378,12 +384,98 @@ class ColumnTest(HostTest):
             self.assertEqual(self.column(1, 1, [number_of(word)], 1), (6, 1, 1))
 
 
+class PriceTest(HostTest):
+    """Prices of a request."""
+
+    def test_known_sheets(self) -> None:
+        """The sheets of the table, with good prices as there, and with a bad one before 10."""
+        for sheet in SHEETS:
+            whole = self.table(*sheet)
+            for prices in ([1.0] * sheet.n, [-0.0] * sheet.n, [0.0, 2.5][-sheet.n:]):
+                if len(prices) == sheet.n:
+                    self.assertEqual(self.prices(*sheet, prices), whole)
+            bad = (19, sheet.n, 0) if whole[0] in (0, 10) else whole
+            self.assertEqual(self.prices(*sheet, [0.0] * (sheet.n - 1) + [-1.0]), bad)
+
+    def test_documents(self) -> None:
+        """The cases of the papers, an order of the sum that others have otherwise, and each way to leave the range."""
+        edge, chain = [1.0, 0.0, 0.0, 2.0 ** 1022], [0.0, -1.0, 0.0, 0.0, 0.0, -1.0, 0.0, 0.0, 1.0]
+        for n, sheet, prices, expected in [
+                (1, [NAN], [], (18, 0, 0)), (2, edge, [0.0, -1.0], (19, 2, 0)), (2, edge, [1.0, 0.0], (10, 0, 0)),
+                (3, chain, [2.0 ** 53, 1.0, 1.0], (0, 0, 0)), (3, chain, [1.0, 1.0, 2.0 ** 53], (0, 0, 0)),
+                (1, [1.0], [SMALLEST], (10, 0, 0)), (1, [1.0], [2 * SMALLEST], (0, 0, 0)),
+                (1, [2.0], [(2 - 2.0 ** -52) * SMALLEST], (10, 0, 0)), (1, [2.0 ** -600], [2.0 ** 600], (10, 0, 0)),
+                (2, [1.0, -1.0, -1.0, 0.0], [LARGEST, 0.0], (0, 0, 0)),
+                (2, [1.0, -1.0, -1.0, 0.0], [LARGEST, LARGEST], (10, 0, 0)),
+                (2, [1.0, 0.0, 0.0, 0.0], [1.0, SMALLEST], (0, 0, 0))]:
+            self.assertEqual(self.prices(1, n, sheet, prices), expected)
+
+    def test_every_size(self) -> None:
+        """Random sheets of every size and both readings at random prices; most are accepted."""
+        answers = []
+        for n in range(1, 33):
+            for sheet in random_sheets(self.rng, [n], 30):
+                answers += [self.prices(*sheet, prices) for prices in
+                            ([1.0] * n, [reference.random_size(self.rng, 3) for _ in range(n)],
+                             reference.random_prices(self.rng, n))]
+        self.assertGreater(answers.count((0, 0, 0)), 150)
+
+    def test_edge_of_the_range(self) -> None:
+        """Pairs of prices one last place apart, of which one is accepted and the other is 10."""
+        found = 0
+        for sheet in random_sheets(self.rng, [1, 2, 3, 4] * 8, 30):
+            pair = reference.price_edge_pair(self.rng, *sheet, reference.random_prices(self.rng, sheet.n))
+            if pair is not None:
+                found += 1
+                self.assertEqual([self.prices(*sheet, prices) for prices in pair], [(0, 0, 0), (10, 0, 0)])
+        self.assertGreater(found, 20)
+
+    def test_bad_prices(self) -> None:
+        """One search for every fault of a price: the first bad one is told, wherever others stand."""
+        faults = [NAN, INF, -INF, -1.0, -SMALLEST, 2.0 ** -1074, -2.0 ** -1074, number_of(bits_of(SMALLEST) - 1),
+                  *(number_of(word) for word in (0x7ff0000000000001, 0xffffffffffffffff, 0xfff8000000000000))]
+        for sheet in random_sheets(self.rng, [1, 2, 5, 32], 3):
+            for fault in faults:
+                first = self.rng.randrange(sheet.n)
+                prices = [1.0] * first + [fault] + [self.rng.choice([1.0, *faults]) for _ in range(first + 1, sheet.n)]
+                self.assertEqual(self.prices(*sheet, prices), (19, first + 1, 0))
+            for good in (SMALLEST, LARGEST, -0.0, 0.0):
+                self.assertIn(self.prices(*sheet, [good] * sheet.n), [(0, 0, 0), (10, 0, 0)])
+
+    def test_lengths(self) -> None:
+        """Sheets, prices and areas that are too short, right, too long or empty; later places stay as they are."""
+        for sheet in random_sheets(self.rng, [1, 2, 5, 32], 3):
+            n, prices, whole = sheet.n, [1.0] * sheet.n, self.table(*sheet)
+            for room in (0, n - 1):
+                self.assertEqual(self.prices(*sheet, prices, room), (4, 0, 0))
+                self.assertEqual(self.prices(*sheet, [], room), (4, 0, 0))
+            for room in (n, n + 1, n * n, PLACES + 7):
+                self.assertEqual(self.prices(*sheet, prices, room), whole)
+                for given in ([], prices[:-1], prices + [1.0], prices * 2):
+                    self.assertEqual(self.prices(*sheet, given, room), (18, 0, 0))
+            for numbers in ([], sheet.numbers[:-1], sheet.numbers + [0.0]):
+                self.assertEqual(self.prices(sheet.reading, n, numbers, [], 0), (3, 0, 0))
+
+    def test_order(self) -> None:
+        """Each question before the next, where both are answered no."""
+        for reading in (0, 3, 2 ** 64 - 1):
+            self.assertEqual(self.prices(reading, 0, [], [], 0), (1, 0, 0))
+        for n in (0, 33, 2 ** 32, 2 ** 63, 2 ** 64 - 1):
+            self.assertEqual(self.prices(2, n, [NAN], [NAN], 0), (2, 0, 0))
+        for reading, sheet, expected in [
+                (1, [5.0, 1.0, NAN, 1.0], (6, 2, 1)), (2, [1.0, -2.0 ** -1074, 1.0, 1.0], (7, 2, 1)),
+                (1, [0.0, -2.0 ** -1074, 0.0, 0.0], (8, 1, 2)), (1, [1.0, -1.0, 0.0, 0.0], (9, 2, 0))]:
+            self.assertEqual(self.prices(reading, 2, sheet, [NAN] * 3), (18, 0, 0))
+            self.assertEqual(self.prices(reading, 2, sheet, [NAN] * 2), expected)
+
+
 class IdleTest(HostTest):
-    """Idle stages: the table, every entry and every column."""
+    """Idle stages: the table, every entry, every column and prices."""
 
     def every_call(self, n: int, sheet: Sequence[float]) -> Told:
-        """The table of a sheet of reading 1, every entry, which is answered alike, and the report."""
+        """The table of a sheet of reading 1, prices and every entry, which are answered alike, and the report."""
         answer = self.table(1, n, sheet)
+        self.assertEqual(self.prices(1, n, sheet, [0.0] * n), answer)
         for i in range(1, n + 1):
             for j in range(1, n + 1):
                 self.assertEqual(self.entry(1, n, sheet, i, j), answer)
@@ -654,6 +746,7 @@ class UnitTest(HostTest):
                 for room in (0, 60):
                     self.assertEqual(self.table(1, 2, sheet, room, e), (12, 0, 0))
                     self.assertEqual(self.column(1, 2, sheet, 0, room, e), (12, 0, 0))
+                    self.assertEqual(self.prices(1, 2, sheet, [NAN], room, e), (12, 0, 0))
                     self.assertEqual(self.save(2, 2, words, room, e), (12, 0, 0))
                     for k in (-1, 0, 1, 600):
                         self.assertEqual(self.move(1, 2, sheet, k, room, e), (12, 0, 0))
@@ -662,6 +755,7 @@ class UnitTest(HostTest):
             for n in (0, 33, 2 ** 63):
                 self.assertEqual(self.table(1, n, nans, 0, e), (2, 0, 0))
                 self.assertEqual(self.column(1, n, nans, 0, 0, e), (2, 0, 0))
+                self.assertEqual(self.prices(1, n, nans, nans, 0, e), (2, 0, 0))
                 self.assertEqual(self.entry(1, n, nans, 0, 0, e), (2, 0, 0))
                 self.assertEqual(self.save(1, n, [], 0, e), (2, 0, 0))
                 self.assertEqual(self.move(1, n, nans, 600, 0, e), (2, 0, 0))
@@ -675,6 +769,7 @@ class UnitTest(HostTest):
             self.assertEqual(self.table(1, 2, self.P, 5, e), expected)
             self.assertEqual(self.entry(1, 2, self.P, 2, 1, e), expected)
             self.assertEqual(self.column(1, 2, self.P, 2, 3, e), expected)
+            self.assertEqual(self.prices(1, 2, self.P, [1.0, 2.0], 3, e), expected)
             self.assertEqual(self.save(1, 2, words, 61, e), expected)
             self.assertEqual(self.move(1, 2, self.P, 0, 5, e), expected)
             self.assertEqual(self.file(file_of(Sheet(1, 2, self.P), e), 5), expected)
@@ -838,11 +933,15 @@ class LinkTest(HostTest):
         rows = [" ".join(f"{x:.17g}" for x in answer.entries[i * n:(i + 1) * n]) for i in range(n)]
         last = reference.entry(loaded.reading, n, loaded.e, numbers, 1, n)
         column = " ".join(f"{x:.17g}" for x in answer.entries[n - 1::n])
-        return 0, "".join(f"{line}\n" for line in [
+        whole = reference.request_prices(loaded.reading, n, loaded.e, numbers, [1.0] * n, n)
+        text = "".join(f"{line}\n" for line in [
             f"times in units of 2^{loaded.e} seconds", *rows,
             f"each within a factor (1 + 2^-53)^{answer.allowance} of the exact number",
             f"stage 1 to stage {n}: {last.value:.17g}",
             *([f"at stage {n} from each stage: {column}"] if loaded.reading == 1 else [])])
+        if isinstance(whole, Refused):
+            return 1, text + reference.refused_line(whole)
+        return 0, text + "at all stages from each stage: " + " ".join(f"{x:.17g}" for x in whole.entries) + "\n"
 
     def test_example(self) -> None:
         """examples/host.c compiles as C99 without a warning, and prints tables and refusals."""

@@ -19,7 +19,10 @@ entries and columns of an idle stage, and those beside it.
 Moving to another time unit: the questions in order, both ends of the range of k, of the new unit and of the results,
 zeros of either sign, sheets that no table takes, 32 stages, random sheets by the last k that moves them and the first
 that does not, and 1 by every k.
-Before an accepted table or column is written it is compared with the exact inverse by the accuracy rule.
+Prices: the questions in order, every fault of a price, the papers' sheets, orders of the sum, zeros of either sign,
+idle stages, each way to leave the range, prices at the edge of it, and random sheets of both readings with every n
+from 1 to 32.
+Before an accepted table, column or price is written it is compared with the exact inverse by the accuracy rule.
 """
 from __future__ import annotations
 
@@ -35,11 +38,12 @@ sys.path.insert(0, str(Path(__file__).resolve().parents[2] / "tools"))
 sys.dont_write_bytecode = True
 
 from reference import (GREATEST_INT64, HEAD, IN_SECONDS, INF, LARGEST, LEAST_INT64, LIMIT, NAN, P_SHEET,  # noqa: E402
-                       POWERS_OUT_OF_RANGE, SHEET_ROW, Column, Loaded, Moved, Refused, Saved, Style, Table, accuracy,
-                       among_idle, bits_of, column, column_accuracy, dwell, edge_pair, entry, file_length, load,
-                       make_file, make_head, make_rows, make_short_file, make_short_file_words, make_short_head, move,
-                       number_of, random_sheet, random_style, range_facts, record, save, sheet_parts, sheet_to_move,
-                       table, table_of_stream, uneven_sheet, word_of)
+                       POWERS_OUT_OF_RANGE, SHEET_ROW, Column, Loaded, Moved, Prices, Refused, Saved, Style, Table,
+                       accuracy, among_idle, bits_of, column, column_accuracy, dwell, edge_pair, entry, file_length,
+                       load, make_file, make_head, make_rows, make_short_file, make_short_file_words, make_short_head,
+                       move, number_of, price_accuracy, price_edge_pair, random_prices, random_sheet, random_size,
+                       random_style, range_facts, record, request_prices, save, sheet_parts, sheet_to_move, table,
+                       table_of_stream, uneven_sheet, word_of)
 
 Sheet = tuple[int, int, list[float]]  # reading, n, numbers
 
@@ -597,6 +601,78 @@ def moves(rng: random.Random) -> Iterator[Case]:
         yield move_case(1, 1, IN_SECONDS, [1.0], k, 1)
 
 
+# ==== Prices ====
+
+CHAIN = [0.0, -1.0, 0.0, 0.0, 0.0, -1.0, 0.0, 0.0, 1.0]     # its table has a row of three ones
+HALF = [1.0, 0.0, 0.0, 2.0 ** 1022]                         # its table is out of range
+PRICED: list[tuple[Sheet, list[float]]] = [
+    ((1, 1, [2.0]), [3.0]), ((1, 2, P_SHEET), [1.0, 2.0]), ((2, 2, [3.0, -1.0, -4.0, 1.0]), [1.0, 3.0]),
+    ((2, 2, [2.0, 0.0, -1.0, 4.0]), [8.0, 16.0]),
+    # j rises; a product is rounded by itself
+    ((1, 3, CHAIN), [2.0 ** 53, 1.0, 1.0]), ((1, 3, CHAIN), [1.0, 1.0, 2.0 ** 53]),
+    ((2, 2, [3.0, -1.0, 0.0, 7.0]), [0.1, 0.3]),
+    # zeros of either sign, idle stages
+    ((1, 2, P_SHEET), [-0.0, 1.0]), ((1, 2, P_SHEET), [-0.0, -0.0]), ((1, 1, [0.0]), [7.0]),
+    ((1, 2, [1.0, 0.0, 0.0, 0.0]), [5.0, 3.0]), ((1, 3, AROUND_IDLE), [1.0, 1.0, 1.0]),
+    # products and sums in range and out of it
+    ((1, 1, [1.0]), [2 * SMALLEST]), ((1, 1, [1.0]), [SMALLEST]), ((1, 1, [2.0]), [NEARLY_TWO * SMALLEST]),
+    ((1, 2, [1.0, 0.0, 0.0, 0.0]), [1.0, SMALLEST]), ((2, 1, [2.0 ** -600]), [2.0 ** 600]),
+    ((1, 2, P_SHEET), [LARGEST, 0.0]), ((1, 2, P_SHEET), [LARGEST, LARGEST]), ((1, 2, HALF), [1.0, 0.0]),
+    # each fault of a price, before 10
+    ((1, 2, HALF), [0.0, -1.0]), ((1, 2, P_SHEET), [NAN, -1.0]), ((1, 2, P_SHEET), [1.0, INF]), ((2, 1, [1.0]), [-INF]),
+    ((1, 2, P_SHEET), [2.0 ** -1074, NAN]), ((1, 2, P_SHEET), [0.0, -2.0 ** -1074]),
+    ((1, 2, P_SHEET), [1.0, number_of(bits_of(SMALLEST) - 1)]), ((2, 2, [2.0, 0.0, -1.0, 4.0]), [0.0, -SMALLEST])]
+
+
+def price_case(reading: int, n: int, e: int, sheet: list[float], prices: list[float], room: int) -> Case:
+    answer = request_prices(reading, n, e, sheet, prices, room)
+    area = [AREA_NUMBER] * room
+    if isinstance(answer, Prices):
+        if not all(error.within for error in price_accuracy(reading, n, sheet, prices, answer.entries)):
+            raise ArithmeticError(f"prices {prices} of {sheet}: not within the allowance")
+        area[:n] = answer.entries
+    return Case(packed("p", [reading, n, e, room, len(prices), *(bits_of(x) for x in [*prices, *sheet])]),
+                line(answer, [answer.allowance] if isinstance(answer, Prices) else [], [bits_of(x) for x in area]))
+
+
+def price_questions() -> Iterator[Case]:
+    """Questions 1, 2, 12, 3, 4, 18 and 6 to 9, each before the next and before the prices are looked at."""
+    nans = [NAN] * 4
+    for reading, n, e, sheet, prices, room in [
+            (0, 0, 513, [], [], 0), (3, 2, 0, P_SHEET, [1.0, 1.0], 2), (1, 0, -513, [NAN], [], 0),
+            (2, 33, 0, [1.0] * 1089, [1.0] * 33, 33), (1, 2 ** 63, 513, [NAN], [], 0),
+            *((1, 2, e, nans[:3], nans[:3], 0) for e in (513, -513, 2 ** 32, LEAST_INT64, GREATEST_INT64)),
+            (2, 2, 512, nans[:3], [], 0), (1, 2, -512, [*nans, NAN], [NAN], 2), (1, 2, 0, nans, [], 1),
+            (2, 2, -10, nans, [NAN], 0), (1, 2, 10, nans, [NAN], 2), (1, 2, 0, nans, nans[:3], 4), (1, 1, 0, [NAN], [], 1),
+            (2, 2, 1, P_SHEET, [], 2), (1, 2, -1, P_SHEET, [1.0, 1.0, 1.0], 2)]:
+        yield price_case(reading, n, e, sheet, prices, room)
+    for reading, sheet in [(1, [5.0, 1.0, NAN, 1.0]), (2, [1.0, -2.0 ** -1074, 1.0, 1.0]),
+                           (1, [0.0, -2.0 ** -1074, 0.0, 0.0]), (1, [1.0, -1.0, 0.0, 0.0]), (2, [1.0, 0.0, 0.0, -0.0])]:
+        yield price_case(reading, 2, 0, sheet, nans[:2], 2)
+
+
+def prices(rng: random.Random) -> Iterator[Case]:
+    """All cases of prices. For each n an accepted sheet of either reading in turn, at prices about 1; at the edge of the
+    range sheets of few stages."""
+    yield from price_questions()
+    for at, ((reading, n, sheet), given) in enumerate(PRICED):
+        yield price_case(reading, n, UNITS[at % len(UNITS)], sheet, given, n + at % 3)
+    for n in range(1, LIMIT + 1):
+        reading = 1 + n % 2
+        sheet = accepted_sheet(rng, reading, n, STYLES[n * 5 % len(STYLES)])[2]
+        given = [random_size(rng, 3) if rng.random() < 0.9 else -0.0 for _ in range(n)]
+        yield price_case(reading, n, IN_SECONDS, sheet, given, n + 1)
+    live, wide = among_idle(rng, 13, accepted_sheet(rng, 1, 13, STYLES[2])[2], 20)
+    yield price_case(1, 20, -10, wide, [float(j + 1) for j in range(20)], 20)
+    edges = 0
+    while edges < 10:
+        reading, n = rng.choice([1, 2]), rng.randint(1, 4)
+        sheet = accepted_sheet(rng, reading, n, STYLES[0])[2]
+        for given in price_edge_pair(rng, reading, n, sheet, random_prices(rng, n)) or ():
+            yield price_case(reading, n, IN_SECONDS, sheet, given, n)
+            edges += 1
+
+
 # ==== Files ====
 
 def changed(data: bytes, at: int, new: bytes) -> bytes:
@@ -632,7 +708,7 @@ def cases() -> list[Case]:
     one_nan = make_short_file_words(2, 1, [0xFFF4000012345678])
     return [*(dwell_case(data) for data in inputs()), *calls(), *damaged(make_file(1, 2, -10, P_SHEET), 2, 5),
             *damaged(one_nan, 1, 5), *heads(), *saves(random.Random(20260202)), *columns(random.Random(20260303)),
-            *idle_stages(random.Random(20260404)), *moves(random.Random(20260505))]
+            *idle_stages(random.Random(20260404)), *moves(random.Random(20260505)), *prices(random.Random(20260606))]
 
 
 def main(arguments: list[str]) -> int:

@@ -1,1 +1,2 @@
 pub mod ColumnRule
+pub mod PriceRule

@@ -2,6 +2,9 @@
 use mathlib.Core.Path.{_≡_}
 use Prim.Native.Nat.{ℕ, _*_, _^_, _≤_}
 use native.Mathlib.Nat.{pow-suc, pow-zero, one-mul, mul-le-mul}
+use native.Mathlib.Omega.{arith}
+use mathlib.Core.Bool.{Bool, true, false, cond}
+use lib.Dec.{eqb}
 use borrow.Author.Tests.{ne-eqb}
 use Rattle.definitions.specs.Sheet.{allowance}
 
@@ -18,3 +21,12 @@ second-allowance reading n o = rw (ne-eqb reading 1 o, cube n)
 
 pub cube-small : {n : ℕ} → n ≤ 32 → n * n * n ≤ 32768
 cube-small {n} h = mul-le-mul (mul-le-mul h h) h
+
+-- So is the allowance of either reading.
+pub allowance-small : (reading : ℕ) {n : ℕ} → n ≤ 32 → allowance reading n ≤ 393216
+unfolding allowance
+allowance-small reading {n} h = rw (cube n) (go (eqb reading 1))
+  where
+    go : (b : Bool) → cond b 4 12 * (n * n * n) ≤ 393216
+    go true = omega (arith, cube-small h)
+    go false = omega (arith, cube-small h)

@@ -1,7 +1,8 @@
-// The allowance E of a table (document 01, "The sheet and its two readings").
+// The allowance E of a table (document 01, "The sheet and its two readings"), and of prices (document 02, U7).
 ghost use mathlib.Core.Path.{_≡_};
 ghost use Prim.Native.Nat.{_≤_};
 ghost use Rattle.definitions.specs.Sheet.{allowance};
+ghost use Rattle.definitions.specs.Prices.{priceAllowance};
 
 // 4n³ for reading 1, 12n³ for reading 2.
 pub fn allowance_of(reading: usize, n: usize) -> usize
@@ -12,4 +13,12 @@ pub fn allowance_of(reading: usize, n: usize) -> usize
         return 4 * (n * n * n);
     }
     12 * (n * n * n)
+}
+
+// That of prices: n more.
+pub fn allowance_of_prices(reading: usize, n: usize) -> usize
+    requires { ⌜ n ≤ 32 ⌝ }
+    ensures { λ r. ⌜ r ≡ priceAllowance reading n ⌝ }
+{
+    allowance_of(reading, n) + n
 }

@@ -136,7 +136,7 @@ fn words(case: &[u8], from: usize, sheet: &mut [u64]) -> usize
     given
 }
 
-// What a table or a column answers, and every number of its area.
+// What a table, a column or prices answer, and every number of the area.
 fn write_filled(number: usize, row: usize, column: usize, allowance: usize, area: &[f64]) {
     write_refusal(number, row, column);
     if number == 0 {
@@ -206,6 +206,41 @@ fn run_column(case: &[u8]) {
         count(case, 1),
         signed(case, 2),
         &sheet[..given],
+        count(case, 4),
+        &mut area[..room],
+    );
+}
+
+// p: reading, n, e, the length of the answer area, the number of prices, the prices, and the sheet's numbers.
+fn try_prices(reading: usize, n: usize, e: i64, all: &[f64], priced: usize, area: &mut [f64]) {
+    let from = least(priced, all.len());
+    let mut allowance = 0;
+    let mut row = 0;
+    let mut column = 0;
+    let number = table_calls::prices(
+        reading,
+        n,
+        e,
+        &all[from..],
+        &all[..from],
+        area,
+        &mut allowance,
+        &mut row,
+        &mut column,
+    );
+    write_filled(number, row, column, allowance, area);
+}
+
+fn run_prices(case: &[u8]) {
+    let mut all = [0.0; PLACES];
+    let given = numbers(case, 5, &mut all);
+    let mut area = [0.5; PLACES];
+    let room = least(count(case, 3), PLACES);
+    try_prices(
+        count(case, 0),
+        count(case, 1),
+        signed(case, 2),
+        &all[..given],
         count(case, 4),
         &mut area[..room],
     );
@@ -414,6 +449,7 @@ fn run_case(case: &[u8]) {
     match call {
         b't' => run_table(case),
         b'c' => run_column(case),
+        b'p' => run_prices(case),
         b'e' => run_entry(case),
         b'a' => run_entries(case),
         b'f' => run_file(case),

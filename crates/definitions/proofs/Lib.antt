@@ -3,4 +3,5 @@ pub mod Starred
 pub mod ExactExamples
 pub mod FileExamples
 pub mod ColumnExamples
+pub mod PriceExamples
 pub mod MovingExamples

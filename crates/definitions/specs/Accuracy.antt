@@ -8,8 +8,8 @@ use lib.IntN.{ℤ, pos}
 use lib.ListN.{getD}
 use lib.Ieee.{Float, nan, binary64, fits}
 use Rattle.definitions.specs.Numbers.{finite}
-use Rattle.definitions.specs.Fractions.{Fraction, _≈_, _≼_, whole, _*ᶠ_, value}
-use Rattle.definitions.specs.Matrix.{matrix, Stage, Inverse}
+use Rattle.definitions.specs.Fractions.{Fraction, _≈_, _≼_, whole, _*ᶠ_, value, total}
+use Rattle.definitions.specs.Matrix.{matrix, Stage, everyStage, Inverse}
 use Rattle.definitions.specs.Sheet.{takesPart, allowance}
 use Rattle.definitions.specs.Table.{entry}
 use Rattle.definitions.specs.Questions.{Accepted}
@@ -48,7 +48,17 @@ pub record AccurateColumn (n : ℕ) (on : ℕ → Bool) (E : ℕ) (A : ℕ → �
   pub exact : OnlyInverse n on A X
   pub within : (i : ℕ) → i < n → Within E (x i) (extended on X i j)
 
--- The numbers of a lent sheet are binary64 numbers.
+-- The exact price of a request that enters at stage i, for the rule's y and prices c (document 02, U7).
+unfoldable pub exactPrice : ℕ → (ℕ → ℕ → Fraction) → (ℕ → Float) → ℕ → Fraction
+exactPrice n y c i = total everyStage (λ j. y i j *ᶠ value (c j)) n
+
+-- The same words for the prices p of every stage i.
+pub record AccuratePrices (n : ℕ) (on : ℕ → Bool) (E : ℕ) (A : ℕ → ℕ → Fraction) (c : ℕ → Float) (p : ℕ → Float) : Type 0 where
+  pub X : ℕ → ℕ → Fraction
+  pub exact : OnlyInverse n on A X
+  pub within : (i : ℕ) → i < n → Within E (p i) (exactPrice n (extended on X) c i)
+
+-- The numbers of a lent sheet, or the prices, are binary64 numbers.
 unfoldable pub Binary64 : List Float → Type 0
 Binary64 sheet = (i : ℕ) → T (fits binary64 (getD sheet i nan))
 

@@ -15,7 +15,7 @@ unfoldable pub ColumnClaim : List (Line ℕ ℕ) → Type 0
 ColumnClaim lines = Claim ofColumn lines
 
 -- Places before the call.
-abbrev three : List Float
+abbrev pub three : List Float
 three = num 7 ∷ num 8 ∷ num 9 ∷ []
 
 abbrev pub one : List Float
@@ -25,7 +25,7 @@ abbrev pub P : List Float
 P = num 1 ∷ minus (num 1) ∷ minus (num 1) ∷ num 0 ∷ []
 
 -- One column in range, the table not: 1 / 2^1022 is a step of the second column alone.
-abbrev edge : List Float
+abbrev pub edge : List Float
 edge = num 1 ∷ num 0 ∷ num 0 ∷ num (2 ^ 1022) ∷ []
 
 abbrev tiny : Float

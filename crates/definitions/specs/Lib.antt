@@ -11,6 +11,7 @@ pub mod Fractions
 pub mod Matrix
 pub mod Accuracy
 pub mod Column
+pub mod Prices
 pub mod File
 pub mod Saving
 pub mod Moving
@@ -20,4 +21,5 @@ pub mod ExactExamples
 pub mod FileExamples
 pub mod Calls
 pub mod ColumnExamples
+pub mod PriceExamples
 pub mod MovingExamples

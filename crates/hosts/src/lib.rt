@@ -7,7 +7,7 @@ ghost use Rattle.definitions.specs.File.{fileNumberArea, fileWordArea};
 ghost use Rattle.definitions.specs.Saving.{savedNumbers, savedWords};
 ghost use Rattle.file_calls.specs.FileCalls.{FileCall, SaveCall};
 ghost use Rattle.move_calls.specs.MoveCalls.{MoveCall};
-ghost use Rattle.table_calls.specs.TableCalls.{TableCall, ColumnCall, EntryCall};
+ghost use Rattle.table_calls.specs.TableCalls.{TableCall, ColumnCall, EntryCall, PricesCall};
 ghost use Rattle.hosts.specs.HostCalls.{ReportCall};
 
 // The whole table in the first n × n places of the answer area, and its allowance.
@@ -61,6 +61,24 @@ pub extern "C" fn yulanbowls_entry(
     ensures { λ r. ⌜ EntryCall reading n e (now (sheet .entry)) i j (now (seconds .entry)) (now (seconds .exit)) (now (row .exit)) (now (column .exit)) r ⌝ }
 {
     table_calls::entry(reading, n, e, sheet, i, j, seconds, row, column)
+}
+
+// The price of a request that enters at each stage, in the first n places of the answer area, and its allowance.
+#[no_mangle]
+pub extern "C" fn yulanbowls_prices(
+    reading: usize,
+    n: usize,
+    e: i64,
+    sheet: &[f64],
+    prices: &[f64],
+    answer: &mut [f64],
+    allowance: &mut usize,
+    row: &mut usize,
+    column: &mut usize,
+) -> usize
+    ensures { λ r. ⌜ PricesCall reading n e (now (sheet .entry)) (now (prices .entry)) (now (answer .entry)) (now (answer .exit)) (now (allowance .entry)) (now (allowance .exit)) (now (row .exit)) (now (column .exit)) r ⌝ }
+{
+    table_calls::prices(reading, n, e, sheet, prices, answer, allowance, row, column)
 }
 
 // A sheet file's numbers in the first n × n places of the area, each from its bits.

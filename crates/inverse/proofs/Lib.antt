@@ -6,3 +6,4 @@ pub mod ExactRatios
 pub mod ExactScaled
 mod RowForms
 pub mod ReducedReadings
+pub mod NearFractions

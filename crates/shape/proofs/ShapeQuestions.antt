@@ -15,6 +15,7 @@ use Rattle.definitions.specs.File.{fileLength}
 use Rattle.definitions.specs.Saving.{saveQuestions}
 use Rattle.definitions.specs.Moving.{moveInput}
 use Rattle.definitions.specs.Column.{columnReading, columnShape, columnInput}
+use Rattle.definitions.specs.Prices.{question18, priceShape, priceInput}
 use Rattle.steps.proofs.QuestionLaws.{then-first, then-next, ask-yes, is-stage, one-stage}
 use Rattle.answers.specs.Outcome.{ComesTo}
 use Rattle.answers.proofs.Outcome.{all-pass, no, asked-no, asked-yes, in-other-words}
@@ -99,6 +100,16 @@ module _ (n i j : ℕ) where
   pub good-entry : not (leb 1 i && leb i n && (leb 1 j && leb j n)) ≡ false → ComesTo (question5 n i j) 0 0 0
   unfolding question5
   good-entry e = all-pass (asked-yes (leb 1 i && leb i n && (leb 1 j && leb j n)) 5 0 0 e)
+
+-- And question 18.
+module _ (n given : ℕ) where
+  pub bad-count : (given ≡ n → ⊥) → ComesTo (question18 n given) 18 0 0
+  unfolding question18
+  bad-count h = no (λ z. omega arith) (rw (ne-eqb given n h))
+
+  pub good-count : given ≡ n → ComesTo (question18 n given) 0 0 0
+  unfolding question18
+  good-count same = all-pass (rw (eq-eqb given n same))
 
 room-held : (needed room : ℕ) → question4 needed room ≡ pass → needed ≤ room
 unfolding question4
@@ -195,3 +206,20 @@ module _ (reading n : ℕ) (e : ℤ) (sheet : List Float) where
       let p = shape-passed (question5 n i j then numberQuestions reading n sheet) q in
       let t = ask-yes (leb 1 i && leb i n && (leb 1 j && leb j n)) 5 0 0 (then-first (question5 n i j) (numberQuestions reading n sheet) (p .1)) in
       (p .0, is-stage i n (and-l (leb 1 i && leb i n) (leb 1 j && leb j n) t), is-stage j n (and-r (leb 1 i && leb i n) (leb 1 j && leb j n) t))
+
+  -- Prices ask 4 for n numbers, and 18.
+  price-shape-passed : (given room : ℕ) → priceShape reading n e (length sheet) given room ≡ pass → Square n sheet × (n ≤ room) × (given ≡ n)
+  unfolding priceShape question18
+  price-shape-passed given room q =
+      let four = question4 n room in
+      let last = question18 n given in
+      let p = shape-passed (four then last) q in
+      (p .0, room-held n room (then-first four last (p .1)), eqb→eq given n (ask-yes (eqb given n) 18 0 0 (then-next four last (p .1))))
+
+  pub price-square : (given room : ℕ) → priceShape reading n e (length sheet) given room ≡ pass → Square n sheet
+  price-square given room q = price-shape-passed given room q .0
+
+  pub price-input-passed : (given room : ℕ) → priceInput reading n e sheet given room ≡ pass → Square n sheet × (n ≤ room) × (given ≡ n)
+  unfolding priceInput
+  price-input-passed given room q =
+      price-shape-passed given room (then-first (priceShape reading n e (length sheet) given room) (numberQuestions reading n sheet) q)

@@ -1,13 +1,14 @@
 // Questions 1 to 5 of document 01: the reading, the number of stages, the lengths of the lent areas and the
-// stages asked for, with 12 of the unit among them, and those of saving and of one column (document 02, U1, U2
-// and U5). Each answers 0, or the number of the first question that is answered no; their refusals have no row
-// and no column. And the number at a place of a sheet of that shape.
+// stages asked for, with 12 of the unit among them, and those of saving, of one column and of prices (document 02,
+// U1, U2, U5 and U7). Each answers 0, or the number of the first question that is answered no; their refusals have
+// no row and no column. And the number at a place of a sheet of that shape.
 ghost use Prim.Native.Nat.{_*_, _<_};
 ghost use mathlib.Core.Path.{_≡_};
 ghost use Rattle.definitions.specs.Sheet.{place};
 ghost use Rattle.definitions.specs.Questions.{_then_, shapeQuestions, question4, question5};
 ghost use Rattle.definitions.specs.Saving.{saveQuestions};
 ghost use Rattle.definitions.specs.Column.{columnShape};
+ghost use Rattle.definitions.specs.Prices.{priceShape};
 ghost use Rattle.answers.specs.Outcome.{ComesTo};
 ghost use Rattle.shape.specs.Square.{Square};
 
@@ -89,6 +90,24 @@ pub fn ask_column(reading: usize, n: usize, e: i64, held: usize, room: usize, st
     }
     if !((1 <= stage) & (stage <= n)) {
         return 5;
+    }
+    0
+}
+
+// Questions 1 to 4 and 18 of prices: `given` is how many there are, and `room` the length of the answer area, which
+// takes n numbers.
+pub fn ask_prices(reading: usize, n: usize, e: i64, held: usize, given: usize, room: usize) -> usize
+    ensures { λ r. ⌜ ComesTo (priceShape reading n e held given room) r 0 0 ⌝ }
+{
+    let shape = ask_shape(reading, n, e, held);
+    if shape != 0 {
+        return shape;
+    }
+    if room < n {
+        return 4;
+    }
+    if given != n {
+        return 18;
     }
     0
 }

@@ -1,9 +1,10 @@
-// Questions 1 to 9 of document 01, in its order and with 12 of the unit, for the whole table, one column and one
-// entry, and those of moving. The public calls have no `requires`: each question is asked only where the ones before it passed.
+// Questions 1 to 9 of document 01, in its order and with 12 of the unit, for the whole table, one column, one
+// entry and prices, and those of moving. The public calls have no `requires`: each question is asked only where the ones before it passed.
 ghost use mathlib.Core.Bool.{cond};
 ghost use Rattle.definitions.specs.Questions.{placeQuestions, numberQuestions, tableInput, entryInput};
 ghost use Rattle.definitions.specs.Column.{columnInput};
 ghost use Rattle.definitions.specs.Moving.{moveInput};
+ghost use Rattle.definitions.specs.Prices.{priceInput};
 ghost use Rattle.answers.specs.Outcome.{ComesTo};
 ghost use Rattle.shape.specs.Square.{Square};
 use answers::Asked;
@@ -91,6 +92,28 @@ pub fn entry_input(reading: usize, n: usize, e: i64, sheet: &[f64], i: usize, j:
     ensures { λ r. ⌜ ComesTo (entryInput reading n e (now (sheet .entry)) i j) (r .number) (r .row) (r .column) ⌝ }
 {
     let shape = shape::ask_entry(reading, n, e, sheet.len(), i, j);
+    if shape != 0 {
+        return Asked {
+            number: shape,
+            row: 0,
+            column: 0,
+        };
+    }
+    ask_numbers(true, reading, n, sheet)
+}
+
+// The same for prices, 18 among them; `given` is how many there are, and `room` the length of the answer area.
+pub fn price_input(
+    reading: usize,
+    n: usize,
+    e: i64,
+    sheet: &[f64],
+    given: usize,
+    room: usize,
+) -> Asked
+    ensures { λ r. ⌜ ComesTo (priceInput reading n e (now (sheet .entry)) given room) (r .number) (r .row) (r .column) ⌝ }
+{
+    let shape = shape::ask_prices(reading, n, e, sheet.len(), given, room);
     if shape != 0 {
         return Asked {
             number: shape,

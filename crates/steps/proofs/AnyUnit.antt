@@ -10,6 +10,7 @@ use lib.Ieee.Bits.{is-true}
 use Rattle.definitions.specs.Questions.{exponentInRange, question12, sizeQuestions, shapeQuestions, tableInput, tableQuestions, entryInput, entryQuestions}
 use Rattle.definitions.specs.Services.{tableAnswer, tableArea, entryAnswer}
 use Rattle.definitions.specs.Column.{columnShape, columnInput, columnQuestions, columnAnswer, columnArea}
+use Rattle.definitions.specs.Prices.{priceShape, priceInput, priceQuestions, priceAnswer, priceArea}
 use Rattle.steps.specs.AnyUnit.{SameAnswers, SameInEveryUnit}
 
 module _ (reading n : ℕ) (e e' : ℤ) (in-range : T (exponentInRange e)) (in-range' : T (exponentInRange e')) where
@@ -30,8 +31,12 @@ module _ (reading n : ℕ) (e e' : ℤ) (in-range : T (exponentInRange e)) (in-r
     unfolding columnQuestions columnInput columnShape
     same-column room stage = rw (same-size (length sheet))
 
+    same-prices : (given : List Float) (room : ℕ) → priceQuestions reading n e sheet given room ≡ priceQuestions reading n e' sheet given room
+    unfolding priceQuestions priceInput priceShape shapeQuestions
+    same-prices given room = rw (same-size (length sheet))
+
     same-answers : SameAnswers reading n e e' sheet
-    unfolding tableAnswer tableArea entryAnswer columnAnswer columnArea
+    unfolding tableAnswer tableArea entryAnswer columnAnswer columnArea priceAnswer priceArea
     same-answers =
         record {
           table = λ room. rw (same-table room);
@@ -39,6 +44,8 @@ module _ (reading n : ℕ) (e e' : ℤ) (in-range : T (exponentInRange e)) (in-r
           entry = λ i j. rw (same-entry i j);
           column = λ room stage. rw (same-column room stage);
           columnAreas = λ stage area. rw (same-column (length area) stage);
+          prices = λ given room. rw (same-prices given room);
+          priceAreas = λ given area. rw (same-prices given (length area));
         }
 
 pub same-in-every-unit : SameInEveryUnit

@@ -8,8 +8,9 @@ use Rattle.answers.specs.declared.Entry.{Entry}
 use Rattle.answers.specs.Answers.{filledGiven, entryGiven}
 use Rattle.column_planner.specs.Promises.{ColumnDone}
 use Rattle.planner.specs.Promises.{TableDone, EntryDone}
+use Rattle.price_planner.specs.Promises.{PricesDone}
 use Rattle.out_places.specs.OutPlaces.{ValueHanded}
-use Rattle.table_calls.specs.TableCalls.{TableCall, ColumnCall, EntryCall}
+use Rattle.table_calls.specs.TableCalls.{TableCall, ColumnCall, EntryCall, PricesCall}
 
 module _ {row column number : ℕ} where
   pub table-call : {reading n : ℕ} {e : ℤ} {sheet before after : List Float} {r : Filled} {was is : ℕ} → TableDone reading n e sheet before after r
@@ -23,3 +24,7 @@ module _ {row column number : ℕ} where
   pub entry-call : {reading n : ℕ} {e : ℤ} {sheet : List Float} {i j : ℕ} {r : Entry} {was is : Float} → EntryDone reading n e sheet i j r
       → ValueHanded (entryGiven r) was is row column number → EntryCall reading n e sheet i j was is row column number
   entry-call done told = record { answer = rw (done .answered) at told; accurate = done .accurate }
+
+  pub prices-call : {reading n : ℕ} {e : ℤ} {sheet prices before after : List Float} {r : Filled} {was is : ℕ} → PricesDone reading n e sheet prices before after r
+      → ValueHanded (filledGiven r) was is row column number → PricesCall reading n e sheet prices before after was is row column number
+  prices-call done told = record { answer = rw (done .answered) at told; area = done .area; accurate = done .accurate }

@@ -1,4 +1,4 @@
--- What the calls for the table, one column and one entry promise with out places, refused calls too: what is returned, and every
+-- What the calls for the table, one column, one entry and prices promise with out places, refused calls too: what is returned, and every
 -- place that the call may write.
 use mathlib.Core.Path.{_≡_}
 use mathlib.Core.List.{List}
@@ -10,9 +10,10 @@ use Rattle.definitions.specs.Sheet.{place, takesPart, allowance}
 use Rattle.definitions.specs.Table.{entry}
 use Rattle.definitions.specs.Matrix.{matrix}
 use Rattle.definitions.specs.Questions.{pass, tableQuestions, entryQuestions}
-use Rattle.definitions.specs.Accuracy.{Accurate, AccurateColumn}
+use Rattle.definitions.specs.Accuracy.{Accurate, AccurateColumn, AccuratePrices}
 use Rattle.definitions.specs.Services.{tableAnswer, tableArea, entryAnswer}
 use Rattle.definitions.specs.Column.{columnQuestions, columnAnswer, columnArea}
+use Rattle.definitions.specs.Prices.{unitPrice, priceQuestions, priceAllowance, priceAnswer, priceArea}
 use Rattle.out_places.specs.OutPlaces.{ValueHanded}
 
 -- The whole table: the answer area and the place for the allowance before and after, the places for the row and the column
@@ -35,3 +36,10 @@ pub record EntryCall (reading n : ℕ) (e : ℤ) (sheet : List Float) (i j : ℕ
   pub answer : ValueHanded (entryAnswer reading n e sheet i j) seconds seconds' row column returned
   pub accurate : entryQuestions reading n e sheet i j ≡ pass
       → Accurate n (takesPart reading n sheet) (allowance reading n) (matrix reading n sheet) (entry reading n sheet)
+
+-- Prices: the same places as a column's.
+pub record PricesCall (reading n : ℕ) (e : ℤ) (sheet prices before after : List Float) (allowed allowed' row column returned : ℕ) : Type 0 where
+  pub answer : ValueHanded (priceAnswer reading n e sheet prices (length before)) allowed allowed' row column returned
+  pub area : after ≡ priceArea reading n e sheet prices before
+  pub accurate : priceQuestions reading n e sheet prices (length before) ≡ pass
+      → AccuratePrices n (takesPart reading n sheet) (priceAllowance reading n) (matrix reading n sheet) (unitPrice prices) (λ i. getD after i nan)

@@ -1,5 +1,5 @@
-// The whole table, one column and one entry with out places (`out_places`), as programs in C call them.
-ghost use Rattle.table_calls.specs.TableCalls.{TableCall, ColumnCall, EntryCall};
+// The whole table, one column, one entry and prices with out places (`out_places`), as programs in C call them.
+ghost use Rattle.table_calls.specs.TableCalls.{TableCall, ColumnCall, EntryCall, PricesCall};
 
 // The whole table in the first n × n places of the answer area, and its allowance.
 pub fn table(
@@ -52,4 +52,22 @@ pub fn entry(
 {
     let entry = planner::one_entry(reading, n, e, sheet, i, j);
     out_places::hand_seconds(entry, seconds, row, column)
+}
+
+// The price of a request that enters at each stage, in the first n places of the answer area, and its allowance.
+pub fn prices(
+    reading: usize,
+    n: usize,
+    e: i64,
+    sheet: &[f64],
+    prices: &[f64],
+    answer: &mut [f64],
+    allowance: &mut usize,
+    row: &mut usize,
+    column: &mut usize,
+) -> usize
+    ensures { λ r. ⌜ PricesCall reading n e (now (sheet .entry)) (now (prices .entry)) (now (answer .entry)) (now (answer .exit)) (now (allowance .entry)) (now (allowance .exit)) (now (row .exit)) (now (column .exit)) r ⌝ }
+{
+    let told = price_planner::request_prices(reading, n, e, sheet, prices, answer);
+    out_places::hand_allowance(told, allowance, row, column)
 }

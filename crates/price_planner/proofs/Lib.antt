@@ -1,0 +1,2 @@
+mod SamePrices
+mod Endings
