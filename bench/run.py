@@ -4,9 +4,9 @@
     python3 bench/run.py [--quick] [--no-errors] [--goals] [--sizes 2,4,8-12] [--against libhosts.a]
 
 builds the proved library (`rt staticlib hosts`), bench/steps.c and bench/time.c into target/bench, checks
-that all give the same bits and decisions, and prints six parts: the time of a whole table, of sheets at the
-edge of the range, errors, the time of one column, of sheets with idle stages, and of moving a sheet to
-another time unit.  With --against the library of another commit, whose calls take the same arguments, runs
+that all give the same bits and decisions, and prints seven parts: the time of a whole table, of sheets at the
+edge of the range, errors, the time of one column, of sheets with idle stages, of moving a sheet to another
+time unit, and of prices.  With --against the library of another commit, whose calls take the same arguments, runs
 beside it, and a last table says for each n whether sheets without idle stages take at most 1.03 of its time.
 Standard library only; nothing is installed.  Exit status 1 if bits or decisions differ, or an error is above
 its allowance; with --goals also if one column takes more of the whole table's time than it should, or a sheet
@@ -44,8 +44,10 @@ WHOLE, COLUMN, OTHER_COLUMN, UNCHECKED_COLUMN, CHECKED_COLUMN = (
     "checked C -O3, one column")
 ONE_COLUMN = [COLUMN, OTHER_COLUMN, UNCHECKED_COLUMN, CHECKED_COLUMN]
 MOVING, OTHER_MOVING, UNCHECKED_MOVING = "yulanbowls, moving", "other library, moving", "C -O3, moving"
+ALONE, PRICES, UNCHECKED_PRICES, CHECKED_PRICES = (
+    "yulanbowls, table alone", "yulanbowls, prices", "C -O3, prices", "checked C -O3, prices")
 DECIDES = [OURS, OTHER, "checked C -O3", "checked C -O2", WHOLE, COLUMN, OTHER_COLUMN, CHECKED_COLUMN, MOVING,
-           OTHER_MOVING]
+           OTHER_MOVING, ALONE, PRICES, CHECKED_PRICES]
 GOALS = {8: 0.7, 32: 0.55}      # the most of the whole table's time that one column takes, for these n
 OTHER_GOAL = 1.03               # the most of the other library's time that a sheet without idle stages takes
 OTHER_NAMES = {"yulanbowls_table": "other_table", "yulanbowls_column": "other_column",
@@ -130,12 +132,14 @@ class Group:
     matrices: Optional[list[list[float]]] = None    # A column by column, for LAPACK
     stages: Optional[list[int]] = None              # for each sheet the one whose column is asked for
     powers: Optional[list[int]] = None              # for each sheet the k of the 2^k that it is moved by
+    prices: Optional[list[list[float]]] = None      # for each sheet the prices of its stages
 
     def words(self) -> bytes:
         """What time.c reads."""
         matrices = self.matrices or [nearest_matrix(self.reading, self.n, sheet) for sheet in self.sheets]
-        numbers = [x for sheet in [*self.sheets, *matrices] for x in sheet]
-        about = 1 if self.stages else 2 if self.powers else 0
+        prices = self.prices or [[0.0] * self.n for _ in self.sheets]
+        numbers = [x for part in [*prices, *self.sheets, *matrices] for x in part]
+        about = 1 if self.stages else 2 if self.powers else 3 if self.prices else 0
         asked = self.stages or self.powers or [0] * len(self.sheets)
         return struct.pack(f"<5Q{len(asked)}q", self.reading, self.n, len(self.sheets), self.batches, about, *asked) + \
             struct.pack(f"<{len(numbers)}d", *numbers)
@@ -196,13 +200,18 @@ def bits(numbers: Iterable[float]) -> list[int]:
     return [reference.bits_of(x) for x in numbers]
 
 
-def expected_answer(group: Group, at: int, one_column: bool) -> Union[Sequence[float], reference.Refused]:
-    """The numbers that the reference gives for a sheet of a group, or its refusal."""
+def expected_answer(group: Group, at: int, name: str) -> Union[Sequence[float], reference.Refused]:
+    """The numbers that the reference gives to a candidate for a sheet of a group, or its refusal."""
     asked = group.reading, group.n, reference.IN_SECONDS, group.sheets[at]
     if group.powers:
         moved = reference.move(*asked, group.powers[at], group.n ** 2)
         return moved.numbers if isinstance(moved, reference.Moved) else moved
-    made = reference.column(*asked, group.stages[at], group.n) if one_column else reference.table(*asked, group.n ** 2)
+    if name in ONE_COLUMN:
+        made = reference.column(*asked, group.stages[at], group.n)
+    elif group.prices and name != ALONE:
+        made = reference.request_prices(*asked, group.prices[at], group.n)
+    else:
+        made = reference.table(*asked, group.n ** 2)
     return made if isinstance(made, reference.Refused) else made.entries
 
 
@@ -210,12 +219,12 @@ def check_answers(what: str, group: Group, found: dict[str, Result]) -> None:
     """The candidates beside the independent reference: the same decision where they make one, no number
     written where it is no, and the same bits where it is yes.  LAPACK has other bits."""
     for at in range(len(group.sheets)):
-        whole = expected_answer(group, at, one_column=False)
-        column = expected_answer(group, at, one_column=True) if group.stages else []
+        kinds = {name: ONE_COLUMN[0] if name in ONE_COLUMN else name if name == ALONE else "" for name in found}
+        answers = {kind: expected_answer(group, at, kind) for kind in set(kinds.values())}
         for name in found.keys() - {LAPACK}:
             number, numbers = found[name].answers[at]
             where = f"{name}, {what}, reading {group.reading}, n = {group.n}, sheet {at + 1}"
-            expected = column if name in ONE_COLUMN else whole
+            expected = answers[kinds[name]]
             if not isinstance(expected, reference.Refused):
                 check(number == 0, f"{where}: refused with {number}")
                 check(bits(numbers) == bits(expected), f"{where}: other bits than the reference")
@@ -636,7 +645,49 @@ def part_moving(program: Path, sizes: Sequence[int], batches: int) -> None:
                 [UNCHECKED_MOVING, OTHER_MOVING], "n and k")
 
 
-# ==== 7. Beside the other library ====
+# ==== 7. Prices ====
+
+def price_groups(sizes: Sequence[int], batches: int) -> list[Group]:
+    """Four dense sheets of reading 1 for each size, with prices from 1 to 2."""
+    groups = timing_groups(1, sizes, batches, lambda rng, n: sheets.dense(rng, n, 0.01))
+    rng = random.Random(10)
+    return [without_matrices(Group(1, group.n, group.sheets, batches,
+                                   prices=[[rng.uniform(1.0, 2.0) for _ in range(group.n)] for _ in group.sheets]))
+            for group in groups]
+
+
+def price_edge_groups(rng: random.Random, pairs: int) -> list[Group]:
+    """Prices on either side of the edge of their range, one last place of one price apart, for sheets of reading 1
+    whose table is accepted; first a product of exactly 2^-1022 beside twice that, and a sum that overflows."""
+    ones, most = [1.0, -1.0, -1.0, 0.0], reference.LARGEST
+    groups = [Group(1, 1, [[1.0]] * 2, prices=[[2.0 ** -1021], [2.0 ** -1022]]),
+              Group(1, 2, [ones] * 2, prices=[[most, 0.0], [most, most]])]
+    while len(groups) < pairs:
+        n = rng.randint(1, 5)
+        sheet = reference.random_sheet(rng, 1, n, reference.random_style(rng, 30))
+        pair = reference.price_edge_pair(rng, 1, n, sheet, reference.random_prices(rng, n))
+        if pair is not None:
+            groups.append(Group(1, n, [sheet] * 2, prices=list(pair)))
+    return [without_matrices(group) for group in groups]
+
+
+def part_prices(program: Path, sizes: Sequence[int], batches: int) -> None:
+    """Prices beside the whole table, and beside plain C."""
+    timed, edges = price_groups(sizes, batches), price_edge_groups(random.Random(11), 40)
+    before = len(failures)
+    _, results = run_groups(program, [*timed, *edges])
+    for at, (group, found) in enumerate(zip([*timed, *edges], results)):
+        check_answers("timing sheet" if at < len(timed) else "edge of the prices' range", group, found)
+    print(f"7. Time of the prices of a request by its entry stage, reading 1, best of {batches} batches of at least 20\n"
+          "microseconds; the rows take turns. Four dense sheets for each n. Prices take the steps of the whole table,\n"
+          "and add n × n products. C: bench/steps.c, the same steps and no questions.\n")
+    if len(failures) == before:
+        print(f"Same bits and decisions as tools/reference.py on the timing sheets and on {2 * len(edges)} price lists at\n"
+              "the edge of the range.\n")
+    print_times(sizes, results[:len(timed)], [ALONE, UNCHECKED_PRICES])
+
+
+# ==== 8. Beside the other library ====
 
 def part_beside(sizes: Sequence[int], beside: Beside, must: bool) -> None:
     """The goal beside the other library for each size; it is a check where it must be met."""
@@ -644,7 +695,7 @@ def part_beside(sizes: Sequence[int], beside: Beside, must: bool) -> None:
     for what, ratios in beside.items():
         rows.append([what, *(f"{ratio:.3f}" for ratio in ratios)])
         rows.append(["", *("met" if ratio <= OTHER_GOAL else "missed" for ratio in ratios)])
-    print("7. Time of sheets without idle stages over the other library's. The goal is at most "
+    print("8. Time of sheets without idle stages over the other library's. The goal is at most "
           f"{OTHER_GOAL} for every n.\n")
     print_table(["time / other library's, n =", *(str(n) for n in sizes)], rows)
     for what, ratios in beside.items():
@@ -690,6 +741,7 @@ def main(arguments: Sequence[str]) -> int:
     beside |= part_columns(program, options.sizes, batches, options.goals)
     part_idle(program, [n for n in options.sizes if n > 1], batches // 5)
     part_moving(program, [8, 32], batches // 5)
+    part_prices(program, options.sizes, batches // 5)
     if beside:
         part_beside(options.sizes, beside, options.goals)
     print(f"{len(failures)} checks failed" if failures else "All checks passed")

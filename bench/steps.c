@@ -1,5 +1,5 @@
-/* The steps for leaving rates of document 01, in its order, in plain C: for the whole table, and for one column
-   of it. run.py compiles this file several times: SUFFIX gives each build its own function names, and with
+/* The steps for leaving rates of document 01, in its order, in plain C: for the whole table, for one column of it,
+   and for prices from it. run.py compiles this file several times: SUFFIX gives each build its own function names, and with
    CHECKED every range test of document 01 stands at its step. Questions 1 to 9 are not asked. Beside them, without
    CHECKED, the product of a sheet and a power of two, in two ways.
 
@@ -102,6 +102,23 @@ int JOIN(column_, SUFFIX)(size_t n, const double *restrict sheet, size_t column,
             b[i] += t[i][k] / p[k] * b[k];
     for (size_t i = 0; i < n; i++)
         answer[i] = b[i] / p[i];
+    return 1;
+}
+
+/* The price of a request by its entry stage; 1 always. */
+int JOIN(prices_, SUFFIX)(size_t n, const double *restrict sheet, const double *restrict prices,
+                          double *restrict answer)
+{
+    double x[LIMIT * LIMIT], c[LIMIT];
+    JOIN(steps_, SUFFIX)(n, sheet, x);
+    for (size_t j = 0; j < n; j++)
+        c[j] = prices[j] + 0.0;
+    for (size_t i = 0; i < n; i++) {
+        double sum = 0.0;
+        for (size_t j = 0; j < n; j++)
+            sum += x[i * n + j] * c[j];
+        answer[i] = sum;
+    }
     return 1;
 }
 
@@ -242,6 +259,33 @@ int JOIN(column_, SUFFIX)(size_t n, const double *restrict sheet, size_t column,
     if (flag != 0.0)
         return 0;
     memcpy(answer, b, n * sizeof(double));
+    return 1;
+}
+
+/* The price of a request by its entry stage; 1 where every step of it is in range, else 0 with no place changed. */
+int JOIN(prices_, SUFFIX)(size_t n, const double *restrict sheet, const double *restrict prices,
+                          double *restrict answer)
+{
+    double x[LIMIT * LIMIT], c[LIMIT], p[LIMIT], flags[LIMIT] = {0.0}, flag = 0.0;
+    if (!JOIN(steps_, SUFFIX)(n, sheet, x))
+        return 0;
+    for (size_t j = 0; j < n; j++)
+        c[j] = prices[j] + 0.0;
+    for (size_t i = 0; i < n; i++) {
+        double sum = 0.0;
+        for (size_t j = 0; j < n; j++)
+            sum += x[i * n + j] * c[j];
+        flag = finite(flag, sum);
+        p[i] = sum;
+    }
+    for (size_t i = 0; i < n; i++)
+        for (size_t j = 0; j < n; j++)
+            flags[j] = above(flags[j], x[i * n + j] * c[j], least_product(c[j]), x[i * n + j]);
+    for (size_t j = 0; j < n; j++)
+        flag += flags[j];
+    if (flag != 0.0)
+        return 0;
+    memcpy(answer, p, n * sizeof(double));
     return 1;
 }
 

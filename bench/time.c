@@ -2,11 +2,12 @@
    answered and its best time.
 
    Input, in 8-byte words, group after group: reading, n, how many sheets, how many batches, what the group is about
-   (0 whole tables, 1 one column, 2 moving), for each sheet the stage whose column is asked for, or the k of the 2^k
-   that it is moved by, or 0, the sheets row by row, then for each sheet its matrix A column by column. Output: a line
-   with OpenBLAS's build and kernels, or "none"; then for each group a line with the number of its candidates, and for
-   each of them a line with the name, a tab and the nanoseconds for one call (0 without batches), and a line for each
-   sheet: 0 or the number of the refusal, and the words of the answer in hexadecimal, n of a column and else n × n. */
+   (0 whole tables, 1 one column, 2 moving, 3 prices), for each sheet the stage whose column is asked for, or the k of
+   the 2^k that it is moved by, or 0, for each sheet n prices, the sheets row by row, then for each sheet its matrix A
+   column by column. Output: a line with OpenBLAS's build and kernels, or "none"; then for each group a line with the
+   number of its candidates, and for each of them a line with the name, a tab and the nanoseconds for one call (0
+   without batches), and a line for each sheet: 0 or the number of the refusal, and the words of the answer in
+   hexadecimal, n of a column or of prices and else n × n. */
 #define _POSIX_C_SOURCE 200809L
 #include <stdint.h>
 #include <stdio.h>
@@ -16,7 +17,7 @@
 
 #include "yulanbowls.h"
 
-enum { LIMIT = 32, MOST = LIMIT * LIMIT, WORKSPACE = 64 * LIMIT, MOST_GROUPS = 256, MOST_CANDIDATES = 17 };
+enum { LIMIT = 32, MOST = LIMIT * LIMIT, WORKSPACE = 64 * LIMIT, MOST_GROUPS = 256, MOST_CANDIDATES = 22 };
 enum { TURN = 10 };                           /* batches of a group before the next group has its turn */
 enum { IN_SECONDS = 0 };                      /* the e of every sheet: no answer depends on it */
 static const double shortest_batch = 20000.0; /* nanoseconds: long beside what a look at the clock costs */
@@ -24,21 +25,21 @@ static const double shortest_batch = 20000.0; /* nanoseconds: long beside what a
 struct group {
     uint64_t reading, n, sheets, batches, about;
     int64_t *asked; /* of each sheet the stage whose column is asked for, or the k that it is moved by */
-    double *numbers, *matrices;
+    double *prices, *numbers, *matrices;
     uint64_t calls[MOST_CANDIDATES]; /* in a batch */
     double best[MOST_CANDIDATES];
 };
 
 /* The groups that a candidate takes part in: those about whole tables, those about one column, where whole tables
-   stand beside the columns, those about moving, each under its number in the input, or those about whole tables
-   that have reading 1. */
-enum part { TABLES, COLUMNS, MOVES, TABLES_OF_RATES };
+   stand beside the columns, those about moving, those about prices, again with whole tables beside them, each under
+   its number in the input, or those about whole tables that have reading 1. */
+enum part { TABLES, COLUMNS, MOVES, PRICES, TABLES_OF_RATES };
 
 struct candidate {
     const char *name;
     size_t (*call)(const struct group *g, size_t at, double *answer);
     enum part part;
-    int one_column; /* whether its answer is n numbers */
+    int n_numbers; /* whether its answer is n numbers */
 };
 
 static const double *sheet_of(const struct group *g, size_t at)
@@ -58,6 +59,13 @@ static size_t proved_column(const struct group *g, size_t at, double *answer)
     size_t allowance, row, column;
     return yulanbowls_column(g->reading, g->n, IN_SECONDS, sheet_of(g, at), g->n * g->n, (size_t)g->asked[at], answer,
                              g->n, &allowance, &row, &column);
+}
+
+static size_t proved_prices(const struct group *g, size_t at, double *answer)
+{
+    size_t allowance, row, column;
+    return yulanbowls_prices(g->reading, g->n, IN_SECONDS, sheet_of(g, at), g->n * g->n, &g->prices[at * g->n], g->n,
+                             answer, g->n, &allowance, &row, &column);
 }
 
 static size_t proved_move(const struct group *g, size_t at, double *answer)
@@ -121,6 +129,15 @@ STEPS(plain_native)
 COLUMN_STEPS(plain_O3)
 COLUMN_STEPS(checked_O3)
 
+#define PRICE_STEPS(suffix)                                                                  \
+    int prices_##suffix(size_t n, const double *sheet, const double *prices, double *answer); \
+    static size_t priced_##suffix(const struct group *g, size_t at, double *answer)          \
+    {                                                                                        \
+        return prices_##suffix(g->n, sheet_of(g, at), &g->prices[at * g->n], answer) ? 0 : 10; \
+    }
+PRICE_STEPS(plain_O3)
+PRICE_STEPS(checked_O3)
+
 #define MOVE(way)                                                                            \
     int way##_plain_O3(size_t n, const double *sheet, int k, double *answer);                \
     static size_t moved_by_##way(const struct group *g, size_t at, double *answer)           \
@@ -178,6 +195,10 @@ static const struct candidate candidates[] = {
 #endif
     {"C -O3, moving", moved_by_move, MOVES, 0},
     {"C -O3, ldexp of each number", moved_by_ldexp, MOVES, 0},
+    {"yulanbowls, table alone", proved, PRICES, 0},
+    {"yulanbowls, prices", proved_prices, PRICES, 1},
+    {"C -O3, prices", priced_plain_O3, PRICES, 1},
+    {"checked C -O3, prices", priced_checked_O3, PRICES, 1},
 };
 #define CANDIDATES (sizeof candidates / sizeof candidates[0])
 _Static_assert(CANDIDATES <= MOST_CANDIDATES, "room for every candidate");
@@ -257,7 +278,7 @@ static void measure_all(struct group *groups, size_t count)
 
 static void print_answers(const struct group *g, size_t c)
 {
-    size_t places = candidates[c].one_column ? g->n : g->n * g->n;
+    size_t places = candidates[c].n_numbers ? g->n : g->n * g->n;
     for (size_t at = 0; at < g->sheets; at++) {
         double answer[MOST] = {0.0};
         printf("%zu", candidates[c].call(g, at, answer));
@@ -316,6 +337,7 @@ static int read_group(struct group *g)
         exit(2);
     }
     g->asked = read_many(g->sheets);
+    g->prices = read_many(g->sheets * g->n);
     g->numbers = read_many(g->sheets * g->n * g->n);
     g->matrices = read_many(g->sheets * g->n * g->n);
     return 1;

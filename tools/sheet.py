@@ -1,7 +1,9 @@
 #!/usr/bin/env python3
-"""Sheet files for planners: made from text, shown as text, and dwell's output laid out as a table.
+"""Sheet files for planners: made from text, shown as text, and dwell's output laid out as a table or, with unit
+prices, as a price list.
 
-`sheet.py make --help` describes the text forms; documents 01 and 02 describe the sheet file and the refusals.
+`sheet.py make --help` describes the text forms and `sheet.py prices --help` those of unit prices; documents 01 and 02
+describe the sheet file, the steps of prices and the refusals.
 Stages are numbered from 0 in the code and from 1 in files and messages.
 """
 from __future__ import annotations
@@ -15,10 +17,10 @@ import struct
 import sys
 from dataclasses import dataclass, field
 from decimal import ROUND_UP, Context, Decimal
-from typing import Iterator, NamedTuple, Sequence
+from typing import Iterable, Iterator, NamedTuple, Sequence
 
 LIMIT = 32                 # the most stages of a sheet
-LONGEST_TEXT = 1 << 20     # the most bytes read of a text or of dwell's output
+LONGEST_TEXT = 1 << 20     # the most bytes read of a text, of unit prices or of dwell's output
 SMALLEST = 2.0 ** -1022    # the smallest size of a number that is not zero
 LEAVING_RATES, MARGINS = 1, 2
 READINGS = {"leaving-rates": LEAVING_RATES, "margins": MARGINS}
@@ -28,7 +30,8 @@ UNITS = {"seconds": IN_SECONDS, "ticks": IN_TICKS}
 FURTHEST_UNIT = 512             # e is from -512 to 512
 UNIT_WORD = "unit"
 FIRST_WORDS = ("reading", "stage", "stages", UNIT_WORD)
-SEPARATORS = ("\t", ";", ",")   # between the cells of a matrix
+PRICE_WORD = "price"
+SEPARATORS = ("\t", ";", ",")   # between the cells of a row
 
 
 class Problem(Exception):
@@ -57,6 +60,11 @@ def read_number(text: str) -> float:
     return number
 
 
+def is_number(text: str) -> bool:
+    """Whether a text is a decimal or hexadecimal number, of any size."""
+    return any(form.fullmatch(text) for form in (DECIMAL, HEXADECIMAL))
+
+
 def hexadecimal_number(text: str) -> float:
     """The number nearest to a hexadecimal text, infinite where it is too large."""
     try:
@@ -73,6 +81,11 @@ def shortest(number: float) -> str:
 def exact(number: float) -> str:
     """The number as a C99 hexadecimal float, as printf's %a writes it."""
     return re.sub(r"\.?0*p", "p", number.hex()) if math.isfinite(number) else repr(number)
+
+
+def written(numbers: Iterable[float], hexadecimal: bool) -> list[str]:
+    """Each number as a shortest decimal, or as a hexadecimal float."""
+    return [exact(number) if hexadecimal else shortest(number) for number in numbers]
 
 
 def word_of(number: float) -> int:
@@ -106,6 +119,11 @@ def unit_words(e: int) -> str:
 def unit_heading(e: int) -> str:
     """What a table counts."""
     return {IN_SECONDS: "Seconds", IN_TICKS: "Ticks of 1/1,024 second"}.get(e, f"Units of 2^{e} seconds")
+
+
+def one_unit(e: int) -> str:
+    """What a unit price is paid for."""
+    return {IN_SECONDS: "second", IN_TICKS: "tick of 1/1,024 second"}.get(e, f"2^{e} seconds")
 
 
 # ==== What a text says ====
@@ -155,19 +173,11 @@ class Draft:
 
     def stage(self, name: str, line: int) -> int:
         """The number of a stage that was named before."""
-        if name not in self.names:
-            raise self.problem(line, f"unknown stage {name!r}")
-        return self.names.index(name)
+        return stage_at(self.source, line, self.names, name)
 
     def number(self, text: str, line: int) -> float:
         """A typed number that is zero or positive."""
-        try:
-            number = read_number(text)
-        except ValueError as error:
-            raise self.problem(line, str(error)) from None
-        if number < 0.0:
-            raise self.problem(line, f"{text!r} is negative (rates are typed as positive numbers)")
-        return abs(number)
+        return size_at(self.source, line, text, "rates are typed as positive numbers")
 
     def add_rate(self, i: int, j: int, text: str, line: int) -> None:
         """Takes the rate from stage i to stage j."""
@@ -196,6 +206,24 @@ def problem_at(source: str, line: int, message: str) -> Problem:
     return Problem(f"{source}:{line}: {message}")
 
 
+def stage_at(source: str, line: int, names: Sequence[str], name: str, hint: str = "") -> int:
+    """The number of the stage that a line names; a hint stands behind a name that no stage has."""
+    if name not in names:
+        raise problem_at(source, line, f"unknown stage {name!r}{hint}")
+    return names.index(name)
+
+
+def size_at(source: str, line: int, text: str, rule: str) -> float:
+    """A typed number that is zero or positive; the rule stands behind one that is negative."""
+    try:
+        number = read_number(text)
+    except ValueError as error:
+        raise problem_at(source, line, str(error)) from None
+    if number < 0.0:
+        raise problem_at(source, line, f"{text!r} is negative ({rule})")
+    return abs(number)
+
+
 def check_name(source: str, line: int, name: str) -> None:
     """A name is not empty, can be printed and holds no double quote."""
     if not name:
@@ -204,16 +232,15 @@ def check_name(source: str, line: int, name: str) -> None:
         raise problem_at(source, line, f"the name {name!r} holds a double quote or a character that is not printable")
 
 
-def read_text(source: str, data: bytes) -> Draft:
+def read_text(source: str, lines: Sequence[str]) -> Draft:
     """The draft of a text in either form."""
-    lines = decode(source, data).replace("\r\n", "\n").replace("\r", "\n").split("\n")
     for at, line in enumerate(lines, 1):
         if is_skipped(line):
             continue
         first = line.split()[0]
         if first == "reading":
             return read_lines(source, lines)
-        if separator_of(line) is None or (first in FIRST_WORDS and "\t" not in line):
+        if separator_of(line, DIAGONAL_WORDS) is None or (first in FIRST_WORDS and "\t" not in line):
             raise problem_at(source, at, "a text begins with 'reading leaving-rates', 'reading margins' or "
                                          "a header row of stage names, which a row with the unit may precede")
         return read_matrix(source, lines)
@@ -231,6 +258,11 @@ def decode(source: str, data: bytes) -> str:
         return data.decode("utf-8-sig")
     except UnicodeDecodeError as error:
         raise problem_at(source, data[:error.start].count(b"\n") + 1, "this is not UTF-8 text") from None
+
+
+def lines_of(source: str, data: bytes) -> list[str]:
+    """The lines of a text, whatever ends them."""
+    return decode(source, data).replace("\r\n", "\n").replace("\r", "\n").split("\n")
 
 
 # ==== The form with a line for each rate ====
@@ -328,10 +360,16 @@ def wrong_shape(line: str, words: Sequence[str]) -> str:
 
 # ==== The form of a matrix, as a spreadsheet exports it ====
 
-def separator_of(line: str) -> str | None:
-    """What stands between the cells of a header row: what stands before its last cell, 'leaves' or 'margin'."""
-    last = re.search(r'([\t;,])[ "]*(leaves|margin)[ "]*[\s;,]*$', line, re.IGNORECASE)
-    return last[1] if last else next((separator for separator in SEPARATORS if separator in line), None)
+def separator_before(line: str, last_words: Iterable[str]) -> str | None:
+    """What stands before the last cell of a row, where that is one of these words."""
+    last = re.search(rf'([\t;,])[ "]*({"|".join(last_words)})[ "]*[\s;,]*$', line, re.IGNORECASE)
+    return last[1] if last else None
+
+
+def separator_of(line: str, last_words: Iterable[str]) -> str | None:
+    """What stands between the cells of a header row: what stands before its last cell, one of these words."""
+    any_other = next((separator for separator in SEPARATORS if separator in line), None)
+    return separator_before(line, last_words) or any_other
 
 
 def cells_of(source: str, at: int, line: str, separator: str) -> list[str]:
@@ -346,13 +384,14 @@ def cells_of(source: str, at: int, line: str, separator: str) -> list[str]:
     return cells
 
 
-def rows_of(source: str, lines: Sequence[str]) -> Iterator[tuple[int, list[str]]]:
-    """The rows that are neither blank nor comments, with their lines; the first decides the separator."""
+def rows_of(source: str, lines: Sequence[str], last_words: Iterable[str]) -> Iterator[tuple[int, list[str]]]:
+    """The rows that are neither blank nor comments, with their lines; the first, which may be a header row that ends
+    with one of these words, decides the separator."""
     separator: str | None = None
     for at, line in enumerate(lines, 1):
         if is_skipped(line):
             continue
-        separator = separator or separator_of(line) or ","
+        separator = separator or separator_of(line, last_words) or ","
         cells = cells_of(source, at, line, separator)
         if cells:
             yield at, cells
@@ -364,7 +403,7 @@ def read_matrix(source: str, lines: Sequence[str]) -> Draft:
     draft = Draft(source)
     header = 0
     seen: set[int] = set()
-    for at, cells in rows_of(source, lines):
+    for at, cells in rows_of(source, lines, DIAGONAL_WORDS):
         if header:
             take_row(draft, at, cells, seen)
         elif is_unit_row(cells):
@@ -575,6 +614,10 @@ class Table:
     e: int
     numbers: list[float]
 
+    def row(self, i: int) -> list[float]:
+        """The times of a request that enters at stage i."""
+        return self.numbers[i * self.n:(i + 1) * self.n]
+
 
 def read_answer(source: str, data: bytes) -> Table | Refused:
     """What dwell printed: a table or a refusal."""
@@ -605,20 +648,27 @@ def read_entry(source: str, lines: Sequence[str], n: int, place: int) -> float:
 def table_text(table: Table, names: Sequence[str], hexadecimal: bool) -> str:
     """The table, aligned, with a line before that says what it is, and after it one on idle stages, if it has
     any, and one on its accuracy."""
-    texts = [exact(number) if hexadecimal else shortest(number) for number in table.numbers]
+    texts = written(table.numbers, hexadecimal)
     blocks = [["", *names]]
     blocks += [[name, *align(texts[j::table.n])] for j, name in enumerate(names)]
     columns = [pad(block) for block in blocks]
     lines = ["  ".join(cells).rstrip() for cells in zip(*columns)]
     heading = f"{unit_heading(table.e)} at each stage (columns) for a request that enters at the stage on the left:"
-    return "\n".join([heading, "", *lines, "", *idle_lines(table, names), accuracy_line(table.allowance)]) + "\n"
+    idle = idle_lines(table, names, "Its row and column are zero.", "Their rows and columns are zero.")
+    return page(heading, lines, [*idle, accuracy_line(table.allowance)])
 
 
-def idle_lines(table: Table, names: Sequence[str]) -> list[str]:
-    """A line that names the idle stages, if there are any: no other stage has a zero on the diagonal."""
-    idle = [quote(name) for i, name in enumerate(names) if table.numbers[i * table.n + i] == 0.0]
-    where = "Its row and column are zero." if len(idle) == 1 else "Their rows and columns are zero."
-    return [f"Idle, without any rate or leaving rate: {', '.join(idle)}. {where}"] if idle else []
+def page(heading: str, lines: Sequence[str], notes: Sequence[str]) -> str:
+    """Lines with a heading above and notes below."""
+    return "\n".join([heading, "", *lines, "", *notes]) + "\n"
+
+
+def idle_lines(table: Table, names: Sequence[str], of_one: str, of_several: str) -> list[str]:
+    """A line that names the idle stages, if there are any, and says what that means for one or for several: no other
+    stage has a zero on the diagonal."""
+    idle = [quote(name) for i, name in enumerate(names) if table.row(i)[i] == 0.0]
+    meaning = of_one if len(idle) == 1 else of_several
+    return [f"Idle, without any rate or leaving rate: {', '.join(idle)}. {meaning}"] if idle else []
 
 
 def align(texts: Sequence[str]) -> list[str]:
@@ -642,20 +692,120 @@ def accuracy_line(allowance: int) -> str:
             f"off by at most {most:.1e} of it.")
 
 
+# ==== Unit prices ====
+
+def read_unit_prices(source: str, lines: Sequence[str], names: Sequence[str], hint: str) -> list[float]:
+    """The unit price of each stage, from a text in either form; a hint stands behind a name that no stage has."""
+    given: dict[int, Given] = {}
+    for at, name, text in unit_price_entries(source, lines):
+        i = stage_at(source, at, names, name, hint)
+        if i in given:
+            raise problem_at(source, at, f"the price of {name!r} is given twice (first on line {given[i].line})")
+        if not is_filled(text):
+            raise problem_at(source, at, no_price(name))
+        given[i] = Given(size_at(source, at, text, "prices are zero or positive"), at)
+    for i, name in enumerate(names):
+        if i not in given:
+            raise problem_at(source, len(lines), no_price(name))
+    return [given[i].number for i in range(len(names))]
+
+
+def no_price(name: str) -> str:
+    """What to say of a stage whose price is missing."""
+    return f"stage {name!r} has no price (a price of zero is typed as 0)"
+
+
+def unit_price_entries(source: str, lines: Sequence[str]) -> Iterator[tuple[int, str, str]]:
+    """Line, stage and price of each entry, the price empty where it is missing; the first line decides the form."""
+    first = next(((at, line) for at, line in enumerate(lines, 1) if not is_skipped(line)), (0, ""))
+    return price_rows(source, lines) if is_price_header(source, *first) else price_lines(source, lines)
+
+
+def is_price_header(source: str, at: int, line: str) -> bool:
+    """Whether a row ends with the cell 'price', and is not a stage and its price with a comment that ends so."""
+    words = split_line(source, at, line)
+    is_entry = len(words) == 2 and is_number(words[1])
+    return separator_before(line, [PRICE_WORD]) is not None and not is_entry
+
+
+def price_lines(source: str, lines: Sequence[str]) -> Iterator[tuple[int, str, str]]:
+    """The entries of the form with a line for each stage."""
+    for at, line in enumerate(lines, 1):
+        words = split_line(source, at, line)
+        if len(words) > 2 or any(word in words for word in (",", ";", "->")):
+            raise problem_at(source, at, "write 'NAME PRICE' (quote a name with spaces; numbers have a decimal point; "
+                                         "rows of a spreadsheet follow a header row of two cells, the second 'price')")
+        if words:
+            yield at, bare(words[0]), "".join(words[1:])
+
+
+def price_rows(source: str, lines: Sequence[str]) -> Iterator[tuple[int, str, str]]:
+    """The entries of the form that a spreadsheet exports: a header row, then a row for each stage."""
+    rows = rows_of(source, lines, [PRICE_WORD])
+    at, header = next(rows)
+    if len(header) != 2 or header[1].lower() != PRICE_WORD:
+        raise problem_at(source, at, "a header row of prices has two cells, the second 'price'")
+    for at, cells in rows:
+        if len(cells) > 2:
+            raise problem_at(source, at, f"the row has {len(cells)} cells, the header has 2")
+        yield at, cells[0], "".join(cells[1:])
+
+
+# ==== The price list ====
+
+def request_price(times: Sequence[float], prices: Sequence[float]) -> float | None:
+    """The price of a request that spends these times, each operation rounded once (02, U7); None where a step leaves
+    the range."""
+    total = 0.0
+    for time, price in zip(times, prices, strict=True):
+        product = time * price
+        too_small = time != 0.0 and price != 0.0 and not product > SMALLEST
+        total += product
+        if too_small or not math.isfinite(total):
+            return None
+    return total
+
+
+def request_prices(table: Table, names: Sequence[str], prices: Sequence[float]) -> list[float]:
+    """The price of a request by the stage at which it enters; a step that leaves the range is refused in words."""
+    found: list[float] = []
+    for i in range(table.n):
+        price = request_price(table.row(i), prices)
+        if price is None:
+            raise Problem(f"refused (10): a step of the price at {stage_label(i + 1, names)} leaves the range of "
+                          "binary64 numbers, since some prices are too large or too small for the times of the table.")
+        found.append(price)
+    return found
+
+
+def price_list_text(table: Table, names: Sequence[str], prices: Sequence[float], hexadecimal: bool) -> str:
+    """The price of a request by the stage at which it enters, aligned, with a line before that says what it is, and
+    after it one on idle stages, if there are any, and one on accuracy."""
+    texts = align(written(request_prices(table, names, prices), hexadecimal))
+    width = max(len(name) for name in names)
+    lines = [f"{name.ljust(width)}  {text}".rstrip() for name, text in zip(names, texts, strict=True)]
+    heading = f"Price of a request by the stage at which it enters, for prices per {one_unit(table.e)}:"
+    no_time = "No time is spent there, so"
+    idle = idle_lines(table, names, f"{no_time} its unit price does not count and its request price is zero.",
+                      f"{no_time} their unit prices do not count and their request prices are zero.")
+    return page(heading, lines, [*idle, accuracy_line(table.allowance + table.n)])
+
+
 # ==== Refusals in words ====
 
 REASONS = {
     1: "the reading is neither 1 (leaving rates) nor 2 (margins)",
     2: "the number of stages is not from 1 to 32",
     3: "the sheet does not hold exactly n × n numbers for its n stages",
-    4: "the room lent for the answer is smaller than n × n numbers",
+    4: "the room lent for the answer is smaller than it needs (n × n numbers for a table or a sheet, n for one column "
+       "or for prices, the file's bytes for saving)",
     5: "a stage that was asked for is not one of the sheet's stages",
     6: "{number} is not a finite number",
     7: "{number} has the wrong sign (rates and leaving rates are zero or positive, margins are positive)",
     8: "{number} is too small (a number is zero or at least 2^-1022, about 2.2e-308)",
     9: "a request at {stage} never gets out, since no chain of moves leads from there to a stage with a "
        "leaving rate above zero",
-    10: "a step of the calculation leaves the range of binary64 numbers, since some rates are too large, "
+    10: "a step of the calculation leaves the range of binary64 numbers, since some rates or prices are too large, "
         "too small or too far apart",
     11: "the file ends before {record} is complete",
     12: "the file does not begin with the head of a sheet (reading 1 or 2, 1 to 32 stages, a unit of 2^E seconds "
@@ -665,6 +815,9 @@ REASONS = {
     15: "the power of two to move by is not from -512 to 512",
     16: "a number that is moved would be larger than the largest binary64 number, or smaller than 2^-1022",
     17: "the unit of the moved sheet would be out of range (2^E seconds, E from -512 to 512)",
+    18: "the prices are not n in number, one for each of the sheet's n stages",
+    19: "the unit price of {stage} is not a number, is infinite or negative, or is too small (a price is zero or at "
+        "least 2^-1022, about 2.2e-308)",
 }
 
 
@@ -720,12 +873,34 @@ zero; a missing margin is an error.  With leaving rates, a stage that has none, 
 another stage, is idle: it keeps its place, and its row and column of the table are zero.  The file is
 UTF-8 text.  Errors are one line, FILE:LINE: and what is wrong, with exit status 1."""
 
+PRICE_FORMS = """\
+Unit prices have one of two forms.  Blank lines are left out in both.
+
+Lines, one for each stage, in any order; # begins a comment:
+  intake 0.25                    a stage and its price for each unit of time that a request spends there
+  "key ceremony" 1e-6            a name with spaces stands in double quotes
+
+Rows, as a spreadsheet exports them, with commas, tabs or semicolons between the cells; a row that begins
+with # is a comment:
+  stage,price                    any first cell, then 'price'
+  intake,0.25                    a row for each stage, in any order
+  key ceremony,1e-6
+
+Prices are per unit of the table's time, which the heading of the list names.  They are typed as positive
+numbers or zero, decimal (0.25, 1e-6) or hexadecimal (0x1p-20), and rounded to the nearest binary64 number.
+Every stage has a price: an empty cell or a dash is an error, and a price of zero is typed as 0.  The file
+is UTF-8 text.  Errors are one line, FILE:LINE: and what is wrong, with exit status 1.
+
+The price of a request starts at zero and adds, stage by stage, its time there times the unit price."""
+
 OVERVIEW = """\
-From numbers in a text file or a spreadsheet to a table of seconds:
+From numbers in a text file or a spreadsheet to a table of seconds, and from unit prices to a price list:
   python3 tools/sheet.py make line.txt > line.sheet
   target/bin/dwell < line.sheet | python3 tools/sheet.py table --names line.txt
+  target/bin/dwell < line.sheet | python3 tools/sheet.py prices prices.txt --names line.txt
 
-FILE and TEXT may be - for standard input.  `sheet.py make --help` describes the text forms."""
+FILE, TEXT and PRICES may be - for standard input.  `sheet.py make --help` describes the text forms,
+`sheet.py prices --help` those of unit prices."""
 
 
 def read_bytes(path: str, most: int) -> bytes:
@@ -744,21 +919,29 @@ def source_name(path: str) -> str:
     return "<stdin>" if path == "-" else path
 
 
-def draft_of_path(path: str) -> Draft:
-    """The draft of the text at a path."""
+def lines_of_path(path: str) -> list[str]:
+    """The lines of the text at a path."""
     data = read_bytes(path, LONGEST_TEXT + 1)
     if len(data) > LONGEST_TEXT:
         raise Problem(f"{source_name(path)}: the text is longer than {LONGEST_TEXT} bytes")
-    return read_text(source_name(path), data)
+    return lines_of(source_name(path), data)
+
+
+def draft_of_path(path: str) -> Draft:
+    """The draft of the text at a path."""
+    return read_text(source_name(path), lines_of_path(path))
+
+
+def check_standard_input(*paths: str | None) -> None:
+    """Standard input is at most one of the files that a command reads."""
+    if paths.count("-") > 1:
+        raise Problem("standard input cannot be read twice: give a file its name")
 
 
 def names_for(options: argparse.Namespace) -> list[str]:
     """The names that --names gives, none without it."""
-    if options.names is None:
-        return []
-    if options.names == "-" and options.file == "-":
-        raise Problem("standard input cannot be read twice: give a file its name")
-    return draft_of_path(options.names).names
+    check_standard_input(options.names, options.file)
+    return [] if options.names is None else draft_of_path(options.names).names
 
 
 def names_of_all(options: argparse.Namespace, names: list[str], n: int) -> list[str]:
@@ -785,20 +968,37 @@ def run_show(options: argparse.Namespace) -> bytes:
     return show_text(found, names_of_all(options, names, found.n)).encode()
 
 
-def run_table(options: argparse.Namespace) -> bytes:
-    """The table command."""
+def table_for(options: argparse.Namespace) -> tuple[Table, list[str]]:
+    """The table that dwell printed and a name for each of its stages; a refusal is told in words."""
     names = names_for(options)
     found = read_answer(source_name(options.file), read_bytes(options.file, LONGEST_TEXT))
     if isinstance(found, Refused):
         raise Problem(refusal_sentence(found, names))
-    return table_text(found, names_of_all(options, names, found.n), options.hex).encode()
+    return found, names_of_all(options, names, found.n)
+
+
+def run_table(options: argparse.Namespace) -> bytes:
+    """The table command."""
+    table, names = table_for(options)
+    return table_text(table, names, options.hex).encode()
+
+
+def run_prices(options: argparse.Namespace) -> bytes:
+    """The prices command."""
+    check_standard_input(options.prices, options.file, options.names)
+    lines = lines_of_path(options.prices)
+    table, names = table_for(options)
+    hint = " (without --names the stages are s1, s2, ...)" if options.names is None else ""
+    prices = read_unit_prices(source_name(options.prices), lines, names, hint)
+    return price_list_text(table, names, prices, options.hex).encode()
 
 
 def parser() -> argparse.ArgumentParser:
     """The command line."""
     raw = argparse.RawDescriptionHelpFormatter
     top = argparse.ArgumentParser(prog="sheet.py", epilog=OVERVIEW, formatter_class=raw,
-                                  description="Makes and shows sheet files and lays out dwell's output.")
+                                  description="Makes and shows sheet files, lays out dwell's output and prices "
+                                              "requests.")
     commands = top.add_subparsers(title="commands", required=True, metavar="COMMAND")
     make = commands.add_parser("make", help="write a sheet file, made from a text, to standard output",
                                description="Writes the sheet file of a text to standard output.",
@@ -815,11 +1015,21 @@ def parser() -> argparse.ArgumentParser:
                                             "digits that read back, says their unit above it and names idle stages "
                                             "below it. A refusal becomes a sentence on standard error with exit "
                                             "status 1.")
-    table.add_argument("file", metavar="FILE", nargs="?", default="-",
-                       help="what dwell printed; standard input without it or for -")
-    table.add_argument("--hex", action="store_true", help="print exact hexadecimal floats (C99) instead")
     table.set_defaults(run=run_table)
-    for command in (show, table):
+    prices = commands.add_parser("prices", help="print a price list: the price of a request by the stage at which it "
+                                                "enters",
+                                 description="Prints the price of a request by the stage at which it enters, from unit "
+                                             "prices and dwell's\noutput, as an aligned list of decimals, the shortest "
+                                             "digits that read back.  A refusal becomes a\nsentence on standard error "
+                                             "with exit status 1.",
+                                 epilog=PRICE_FORMS, formatter_class=raw)
+    prices.add_argument("prices", metavar="PRICES", help="unit prices in one of the forms below, - for standard input")
+    prices.set_defaults(run=run_prices)
+    for command in (table, prices):
+        command.add_argument("file", metavar="FILE", nargs="?", default="-",
+                             help="what dwell printed; standard input without it or for -")
+        command.add_argument("--hex", action="store_true", help="print exact hexadecimal floats (C99) instead")
+    for command in (show, table, prices):
         command.add_argument("--names", metavar="TEXT", help="a text whose stage names are used, - for standard "
                                                              "input; without it stages are s1, s2, ...")
     return top

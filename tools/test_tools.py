@@ -3,8 +3,9 @@
 
 The environment variable DWELL holds the command of the dwell program, which reads a sheet file on
 standard input; without it the reference stands in.  Expected bytes are packed here from fractions of the
-typed numbers, and expected seconds are exact inverses over fractions; nothing is compared with a stored
-copy of the tool's output except the walk-through, whose commands are run again.
+typed numbers, expected seconds are exact inverses over fractions, and expected prices are those of the
+reference; nothing is compared with a stored copy of the tool's output except the walk-through, whose
+commands are run again.
 """
 from __future__ import annotations
 
@@ -34,6 +35,7 @@ START_FOLDER = os.getcwd()
 
 sys.dont_write_bytecode = True
 sys.path.insert(0, str(ROOT / "tools"))
+import reference  # noqa: E402
 import sheet  # noqa: E402
 
 Exact = list[list[Fraction]]
@@ -76,7 +78,9 @@ def process(*arguments: str, stdout: int = subprocess.PIPE) -> Result:
 
 
 def dwell(data: bytes) -> bytes:
-    """What the dwell program prints for a sheet file."""
+    """What the dwell program prints for a sheet file; the reference stands in without a process of its own."""
+    if DWELL is REFERENCE:
+        return reference.dwell(data).encode()
     return subprocess.run(DWELL, input=data, stdout=subprocess.PIPE, cwd=START_FOLDER, check=False).stdout
 
 
@@ -120,6 +124,24 @@ class ToolTest(unittest.TestCase):
         digits = digits_of(text)
         if digits > 1 and x.hex().split(".")[1].split("p")[0].strip("0"):
             self.assertNotEqual(float(f"{x:.{digits - 2}e}"), x, text)
+
+    def check_alignment(self, rows: Sequence[str], names: Sequence[str]) -> None:
+        """The units of the numbers of a column stand under each other."""
+        units = []
+        for name, row in zip(names, rows):
+            rest = " " * len(name) + row[len(name):]
+            units.append([found.end() for found in re.finditer(r"(?<!\S)(0x)?[0-9]+", rest)])
+        self.assertEqual(len({tuple(row) for row in units}), 1, "\n".join(rows))
+
+    def check_accuracy_line(self, out: bytes, allowance: int) -> None:
+        """The last line names the allowance and a bound of two digits that is just above it."""
+        last = re.fullmatch(r"Each number is within a factor \(1 \+ 1/2\^53\)\^(\d+) of the exact one, "
+                            r"off by at most (\d\.\de-\d+) of it\.", out.decode().split("\n")[-2])
+        self.assertIsNotNone(last)
+        assert last is not None
+        self.assertEqual(int(last[1]), allowance)
+        least = Fraction(allowance, 2 ** 53)
+        self.assertTrue(least / (1 - least) <= Fraction(last[2]) <= least * Fraction(111, 100))
 
 
 # ==== Sheets, files and exact values, apart from the tools ====
@@ -319,13 +341,50 @@ def split_table(out: bytes, names: Sequence[str]) -> tuple[str, list[list[str]],
     return lines[0], cells, rows
 
 
+def split_list(out: bytes, names: Sequence[str]) -> tuple[str, list[str], list[str]]:
+    """The first line of a price list, its prices and its lines with prices; checks the layout."""
+    lines = out.decode().split("\n")
+    end = 2 + len(names)
+    assert lines[1] == "" and lines[end] == "" and lines[-1] == "" and len(lines) - end in (3, 4), lines
+    assert not any(line != line.rstrip() for line in lines), "blanks at the end of a line"
+    width = max(len(name) for name in names) + 2
+    prices = []
+    for name, line in zip(names, lines[2:end], strict=True):
+        assert line.startswith(name.ljust(width)), line
+        prices.append(line[width:].strip())
+    return lines[0], prices, lines[2:end]
+
+
+def as_price_lines(names: Sequence[str], prices: Sequence[str]) -> str:
+    """Unit prices as lines."""
+    return "".join(f"{quoted(name)} {price}\n" for name, price in zip(names, prices, strict=True))
+
+
+def as_price_rows(names: Sequence[str], prices: Sequence[str], separator: str) -> str:
+    """Unit prices as a spreadsheet exports them."""
+    rows = [("stage", "price"), *((f'"{name}"' if separator in name else name, price)
+                                  for name, price in zip(names, prices, strict=True))]
+    return "".join(separator.join(row) + "\n" for row in rows)
+
+
+def shuffled(rng: random.Random, lines: str, first: int = 0) -> str:
+    """The lines in another order, but for the first ones."""
+    kept, rest = lines.splitlines()[:first], lines.splitlines()[first:]
+    return "\n".join([*kept, *rng.sample(rest, len(rest))]) + "\n"
+
+
 def counted(e: int) -> str:
     """What a table in units of 2^e seconds says that it counts."""
     return "Seconds" if e == 0 else "Ticks of 1/1,024 second" if e == -10 else f"Units of 2^{e} seconds"
 
 
+def paid_for(e: int) -> str:
+    """What a price list in units of 2^e seconds says that prices are per."""
+    return "second" if e == 0 else "tick of 1/1,024 second" if e == -10 else f"2^{e} seconds"
+
+
 def idle_line(out: bytes) -> str:
-    """What a table says of idle stages below its numbers, nothing without such a line."""
+    """What a table or a price list says of idle stages below its numbers, nothing without such a line."""
     last_lines = out.decode().split("\n\n")[-1].split("\n")
     return last_lines[0] if len(last_lines) == 3 else ""
 
@@ -563,21 +622,28 @@ class Errors(ToolTest):
 
     def test_no_file(self) -> None:
         """A file that is not there."""
+        self.write("prices.txt", "s1 1\n")
         for arguments in (["make", "no.txt"], ["show", "no.txt"], ["table", "no.txt"],
-                          ["table", "--names", "no.txt"]):
+                          ["table", "--names", "no.txt"], ["prices", "no.txt"], ["prices", "prices.txt", "no.txt"],
+                          ["prices", "prices.txt", "--names", "no.txt"]):
             self.assertEqual(self.bad(*arguments), "no.txt: No such file or directory")
 
     def test_standard_input_twice(self) -> None:
         """Standard input is read for one purpose."""
-        for arguments in (["show", "-", "--names", "-"], ["table", "--names", "-"], ["table", "-", "--names", "-"]):
-            self.assertIn("standard input cannot be read twice", self.bad(*arguments))
+        for arguments in (["show", "-", "--names", "-"], ["table", "--names", "-"], ["table", "-", "--names", "-"],
+                          ["prices", "-"], ["prices", "-", "-"], ["prices", "-", "out.txt", "--names", "-"],
+                          ["prices", "prices.txt", "--names", "-"], ["prices", "-", "-", "--names", "-"]):
+            self.assertEqual(self.bad(*arguments), "standard input cannot be read twice: give a file its name")
 
     def test_usage(self) -> None:
         """Help ends with status 0, a wrong command line with 2."""
-        for arguments in (["--help"], ["make", "--help"], ["show", "--help"], ["table", "--help"]):
-            self.assertIn(b"usage: sheet.py", self.good(*arguments))
+        for command in ([], ["make"], ["show"], ["table"], ["prices"]):
+            self.assertIn(b"usage: sheet.py", self.good(*command, "--help"))
         self.assertIn(b"FROM", self.good("make", "--help").upper())
-        for arguments in ([], ["weigh"], ["make"], ["make", "a", "b"], ["show", "--hex", "x"]):
+        self.assertIn(b"\n  stage,price  ", self.good("prices", "--help"))
+        self.assertIn(b"sheet.py prices prices.txt --names line.txt\n", self.good("--help"))
+        for arguments in ([], ["weigh"], ["make"], ["make", "a", "b"], ["show", "--hex", "x"], ["prices"],
+                          ["prices", "a", "b", "c"]):
             self.assertEqual(run(*arguments).status, 2)
 
     def test_output(self) -> None:
@@ -718,24 +784,6 @@ class Tables(ToolTest):
         self.check_accuracy_line(out, allowance)
         self.check_hexadecimal(printed, typed.names, words)
         return [number(word) for word in words]
-
-    def check_alignment(self, rows: Sequence[str], names: Sequence[str]) -> None:
-        """The units of the numbers of a column stand under each other."""
-        units = []
-        for name, row in zip(names, rows):
-            rest = " " * len(name) + row[len(name):]
-            units.append([found.end() for found in re.finditer(r"(?<!\S)(0x)?[0-9]+", rest)])
-        self.assertEqual(len({tuple(row) for row in units}), 1, "\n".join(rows))
-
-    def check_accuracy_line(self, out: bytes, allowance: int) -> None:
-        """The last line names the allowance and a bound of two digits that is just above it."""
-        last = re.fullmatch(r"Each number is within a factor \(1 \+ 1/2\^53\)\^(\d+) of the exact one, "
-                            r"off by at most (\d\.\de-\d+) of it\.", out.decode().split("\n")[-2])
-        self.assertIsNotNone(last)
-        assert last is not None
-        self.assertEqual(int(last[1]), allowance)
-        least = Fraction(allowance, 2 ** 53)
-        self.assertTrue(least / (1 - least) <= Fraction(last[2]) <= least * Fraction(111, 100))
 
     def check_hexadecimal(self, printed: bytes, names: Sequence[str], words: Sequence[int]) -> None:
         """With --hex the same bits are printed as hexadecimal floats without needless zeros."""
@@ -948,6 +996,415 @@ class Units(ToolTest):
         self.assertIn("refused (14)", self.bad("show", "-", stdin=longest + b"\0"))
 
 
+ROWS = "stage,price\n"
+NO_PRICE = "has no price (a price of zero is typed as 0)"
+ONE_PRICE = ("write 'NAME PRICE' (quote a name with spaces; numbers have a decimal point; rows of a spreadsheet follow "
+             "a header row of two cells, the second 'price')")
+TOO_LARGE = "is too large (a number stays below 2^1024, about 1.8e308)"
+TOO_SMALL = "is too small (a number is zero or at least 2^-1022, about 2.2e-308)"
+NEGATIVE = "is negative (prices are zero or positive)"
+NO_NUMBER = "is not a number (write it like 0.25, 1e-6 or 0x1p-20)"
+PRICE_ERRORS: list[tuple[str, int, str]] = [
+    # unit prices for the stages a, b and "key check", the line of the error, and its message
+    ("", 1, f"stage 'a' {NO_PRICE}"),
+    ("# only\n\n  \n", 4, f"stage 'a' {NO_PRICE}"),
+    ('b 1\n"key check" 1\n', 3, f"stage 'a' {NO_PRICE}"),
+    ("b 1\na 1\n\n# the end", 4, f"stage 'key check' {NO_PRICE}"),
+    ("a 1\nb\n", 2, f"stage 'b' {NO_PRICE}"),
+    ("a 1\nb # 2\n", 2, f"stage 'b' {NO_PRICE}"),
+    ("a 1\nb -\n", 2, f"stage 'b' {NO_PRICE}"),
+    ("a 1\n\nb 1\na 1\n", 4, "the price of 'a' is given twice (first on line 1)"),
+    ("a 0\na\n", 2, "the price of 'a' is given twice (first on line 1)"),
+    ("a 1\nc 1\n", 2, "unknown stage 'c'"),
+    ("A 1\n", 1, "unknown stage 'A'"),
+    ("c\n", 1, "unknown stage 'c'"),
+    ("unit ticks\n", 1, "unknown stage 'unit'"),
+    ('"a\u0007" 1\n', 1, "unknown stage 'a\\x07'"),
+    ('"" 1\n', 1, "unknown stage ''"),
+    ("a -0.5\n", 1, f"'-0.5' {NEGATIVE}"),
+    ("a -0x1p-1022\n", 1, f"'-0x1p-1022' {NEGATIVE}"),
+    ("a 1e309\n", 1, f"'1e309' {TOO_LARGE}"),
+    ("a 0x1p1024\n", 1, f"'0x1p1024' {TOO_LARGE}"),
+    ("a 1e-400\n", 1, f"'1e-400' {TOO_SMALL}"),
+    ("a -1e-400\n", 1, f"'-1e-400' {TOO_SMALL}"),
+    ("a 0x1p-1023\n", 1, f"'0x1p-1023' {TOO_SMALL}"),
+    ("a 2.225073858507201e-308\n", 1, f"'2.225073858507201e-308' {TOO_SMALL}"),
+    ("a dear\n", 1, f"'dear' {NO_NUMBER}"),
+    ("a nan\n", 1, f"'nan' {NO_NUMBER}"),
+    ("a inf\n", 1, f"'inf' {NO_NUMBER}"),
+    ('a "1"\n', 1, f"'\"1\"' {NO_NUMBER}"),
+    ("a $1\n", 1, f"'$1' {NO_NUMBER}"),
+    ("a price\n", 1, f"'price' {NO_NUMBER}"),
+    ("stage price\na 1\n", 1, "unknown stage 'stage'"),
+    ("a 1 2\n", 1, ONE_PRICE),
+    ("a 0,5\n", 1, ONE_PRICE),
+    ("a,1\n", 1, ONE_PRICE),
+    ("a;1\n", 1, ONE_PRICE),
+    ("a,\n", 1, ONE_PRICE),
+    ("a -> b 1\n", 1, ONE_PRICE),
+    ("a ->\n", 1, ONE_PRICE),
+    ("key check 1\n", 1, ONE_PRICE),
+    ("key check\t1\n", 1, ONE_PRICE),
+    ("# x\n\nstage,price,note\n", 3, ONE_PRICE),
+    ("price,stage\n", 1, ONE_PRICE),
+    ("stage,prices\n", 1, ONE_PRICE),
+    ('a 1\n"b 1\n', 2, "a double quote is not closed"),
+    ("stage,unit,price\n", 1, "a header row of prices has two cells, the second 'price'"),
+    ('"stage,price"\n', 1, "a header row of prices has two cells, the second 'price'"),
+    ('stage,"the, price"\n', 1, "a header row of prices has two cells, the second 'price'"),
+    ("\n" + ROWS, 3, f"stage 'a' {NO_PRICE}"),
+    (ROWS + "b,1\nkey check,1\n", 4, f"stage 'a' {NO_PRICE}"),
+    (ROWS + "a,1\n\nb,\nkey check,1\n", 4, f"stage 'b' {NO_PRICE}"),
+    (ROWS + "a,1\nb\nkey check,1\n", 3, f"stage 'b' {NO_PRICE}"),
+    (ROWS + "a,1\nb, - \nkey check,1\n", 3, f"stage 'b' {NO_PRICE}"),
+    (ROWS + 'a,""\n', 2, f"stage 'a' {NO_PRICE}"),
+    (ROWS + "a,1\nb,1\na,1\n", 4, "the price of 'a' is given twice (first on line 2)"),
+    (ROWS + "a,1\nc,1\n", 3, "unknown stage 'c'"),
+    (ROWS + ",1\n", 2, "unknown stage ''"),
+    (ROWS + "a 1\n", 2, "unknown stage 'a 1'"),
+    (ROWS + "a,1,2\n", 2, "the row has 3 cells, the header has 2"),
+    (ROWS + "a,0,5\n", 2, "the row has 3 cells, the header has 2"),
+    (ROWS + 'a,"0,5"\n', 2, f"'0,5' {NO_NUMBER}"),
+    ("stage;price\na;0,5\n", 2, f"'0,5' {NO_NUMBER}"),
+    (ROWS + "a,#REF!\n", 2, f"'#REF!' {NO_NUMBER}"),
+    (ROWS + "a,-1\n", 2, f"'-1' {NEGATIVE}"),
+    (ROWS + "a,1e309\n", 2, f"'1e309' {TOO_LARGE}"),
+    (ROWS + "a,1e-309\n", 2, f"'1e-309' {TOO_SMALL}"),
+    (ROWS + 'a,"1\n', 2, "a double quote is not closed or stands inside a cell"),
+    (ROWS + 'a,"1"2\n', 2, "a double quote is not closed or stands inside a cell"),
+]
+
+
+class UnitPrices(ToolTest):
+    """Unit prices, read from both forms: where every table entry is 1 or 0 as in the identity, they are the list."""
+
+    def list_of(self, text: str | bytes, names: Sequence[str] = ("a", "b", "key check")) -> list[str]:
+        """The prices, as hexadecimal floats, of a list for the identity table."""
+        arguments = self.identity(names)
+        return split_list(self.good("prices", self.write("prices.txt", text), *arguments, "--hex"), names)[1]
+
+    def identity(self, names: Sequence[str]) -> list[str]:
+        """The arguments for a table that is the identity, and for these names."""
+        n = len(names)
+        entries = [f"{i} {j} {nearest(Fraction(int(i == j))):016x}\n" for i in range(1, n + 1) for j in range(1, n + 1)]
+        self.write("out.txt", f"seconds {n} {4 * n ** 3} 0\n" + "".join(entries))
+        self.write("names.txt", "reading leaving-rates\n" + "".join(f"stage {quoted(name)}\n" for name in names))
+        return ["out.txt", "--names", "names.txt"]
+
+    def test_lines(self) -> None:
+        """Lines in any order, for every number of stages: each price is the nearest to what was typed."""
+        rng = random.Random(11)
+        for n in range(1, 33):
+            names, texts = random_typed(rng, 1, n).names, [random_text(rng) for _ in range(n)]
+            text = shuffled(rng, as_price_lines(names, texts))
+            self.assertEqual([nearest(value(x)) for x in self.list_of(text, names)],
+                             [nearest(value(x)) for x in texts], text)
+
+    def test_rows(self) -> None:
+        """Rows of a spreadsheet in any order, with each separator."""
+        rng = random.Random(12)
+        for n in (1, 2, 3, 8, 32):
+            for separator in ",;\t":
+                names = [name.replace("#", "") for name in random_typed(rng, 1, n).names]
+                texts = [random_text(rng) for _ in range(n)]
+                text = shuffled(rng, as_price_rows(names, texts, separator), 1)
+                self.assertEqual([nearest(value(x)) for x in self.list_of(text, names)],
+                                 [nearest(value(x)) for x in texts], text)
+
+    def test_layouts(self) -> None:
+        """Comments, blank lines, tabs, quotes, empty cells, line ends, a BOM, standard input, in both forms."""
+        for text in ['a 0.5\nb 0x3\n"key check" 1e0\n',
+                     '# head, price\n\n  "key check"\t1 # a comment, with "one quote\n\nb 3#no blank\n"a"   .5\n',
+                     "a 0.5 # before tax, price\nb 3\n\"key check\" 1.0",
+                     "stage,price\na,0.5\nb,3\nkey check,1\n",
+                     '"# head, price",\n\n,PRICE,\n"b","3",""\n key check , 1 \n,,\n#x\na,0.5,,\n',
+                     'Stage #,price\nb,3\nkey check,1\na,0.5', '"a, b; c","Price"\nb,3\n"key check",1\na,0.5\n',
+                     "a, b;price;;\na;0.5;\nb;3\nkey check;1\n", "a;b,price\na,0.5\nb,3\nkey check,1\n",
+                     "price\tPrice\na\t0.5\nb\t3\t\t\nkey check\t1\n", "\tprice\na\t0.5\nb\t3\nkey check\t1\n"]:
+            for same in (text, text.replace("\n", "\r\n"), text.replace("\n", "\r"), "\ufeff" + text):
+                self.assertEqual(self.list_of(same), ["0x1p-1", "0x1.8p+1", "0x1p+0"], same)
+            out = self.good("prices", "-", *self.identity(("a", "b", "key check")), stdin=text.encode())
+            self.assertEqual(split_list(out, ["a", "b", "key check"])[1], ["0.5", "3", "1"])
+
+    def test_odd_names(self) -> None:
+        """A name that begins with # stands in quotes in lines, and words of the text form are names like others."""
+        self.assertEqual(self.list_of('"#7" 2\n', ["#7"]), ["0x1p+1"])
+        self.assertEqual(self.list_of('unit 2\n"a, price" 3\nstage 1\n', ["a, price", "stage", "unit"]),
+                         ["0x1.8p+1", "0x1p+0", "0x1p+1"])
+        self.assertEqual(self.list_of("stage,price\nprice,5\nstage,6\n", ["price", "stage"]),
+                         ["0x1.4p+2", "0x1.8p+2"])
+
+    def test_zeros(self) -> None:
+        """A typed zero, of either sign, is a price, and the request price is plus zero."""
+        for zero in ("0", "-0", "-0.0", "0e999", "0x0p0", "-0x0.0p+0"):
+            self.assertEqual(self.list_of(f"a {zero}\nb 1\n\"key check\" {zero}\n"), ["0x0p+0", "0x1p+0", "0x0p+0"])
+            self.assertEqual(self.list_of(f"x,price\na,{zero}\nb,{zero}\nkey check,{zero}\n"), ["0x0p+0"] * 3)
+
+    def test_edges_of_the_range(self) -> None:
+        """The largest and the smallest prices are read; the smallest is in range where the time is 2."""
+        self.assertEqual(self.list_of("a 1.7976931348623157e308\nb 0x1.fffffffffffffp1023\n\"key check\" 0x1p-1021\n"),
+                         ["0x1.fffffffffffffp+1023", "0x1.fffffffffffffp+1023", "0x1p-1021"])
+        self.write("prices.txt", "s1 1\ns2 2.2250738585072014e-308\n")
+        out = self.good("prices", "prices.txt", "--hex", stdin=b"seconds 2 32 0\n1 1 4000000000000000\n"
+                        b"1 2 0000000000000000\n2 1 0000000000000000\n2 2 4000000000000000\n")
+        self.assertEqual(split_list(out, ["s1", "s2"])[1], ["0x1p+1", "0x1p-1021"])
+
+    def test_problems(self) -> None:
+        """Every error of unit prices is one line, the file, the line and these words."""
+        arguments = self.identity(("a", "b", "key check"))
+        for text, line, words in PRICE_ERRORS:
+            with self.subTest(text=text):
+                self.assertEqual(self.bad("prices", self.write("prices.txt", text), *arguments),
+                                 f"prices.txt:{line}: {words}")
+
+    def test_standard_input(self) -> None:
+        """Unit prices on standard input have a name too."""
+        self.assertEqual(self.bad("prices", "-", *self.identity(["a"]), stdin=b"\nb 1\n"),
+                         "<stdin>:2: unknown stage 'b'")
+
+    def test_without_names(self) -> None:
+        """Without --names the stages are s1, s2, ..., which a message on another name says."""
+        self.identity(["a", "b"])
+        out = self.good("prices", self.write("prices.txt", "s2 3\ns1 2\n"), "out.txt")
+        self.assertEqual(split_list(out, ["s1", "s2"])[1], ["2", "3"])
+        self.assertEqual(self.bad("prices", self.write("prices.txt", "s1 2\nb 3\n"), "out.txt"),
+                         "prices.txt:2: unknown stage 'b' (without --names the stages are s1, s2, ...)")
+        self.assertEqual(self.bad("prices", self.write("prices.txt", "s1 2\n"), "out.txt"),
+                         f"prices.txt:2: stage 's2' {NO_PRICE}")
+
+    def test_bytes(self) -> None:
+        """Bytes that are not UTF-8, and a text that is too long."""
+        arguments = self.identity(["a"])
+        self.assertEqual(self.bad("prices", self.write("prices.txt", b"a 1\n\xff\n"), *arguments),
+                         "prices.txt:2: this is not UTF-8 text")
+        self.assertEqual(self.bad("prices", self.write("prices.txt", b"#" * (1 << 20) + b"\n"), *arguments),
+                         "prices.txt: the text is longer than 1048576 bytes")
+
+
+class PriceLists(ToolTest):
+    """The price of a request by the stage at which it enters, from unit prices and dwell's output."""
+
+    P = packed(1, 2, [nearest(Fraction(x)) for x in (1, -1, -1, 0)])
+    OUT_OF_RANGE = ("leaves the range of binary64 numbers, since some prices are too large or too small for the times "
+                    "of the table.")
+
+    def listed(self, printed: bytes, prices: Sequence[float], *options: str) -> Result:
+        """What the command gives for dwell's output and prices, without names."""
+        typed = as_price_lines([f"s{j + 1}" for j in range(len(prices))], [price.hex() for price in prices])
+        return run("prices", self.write("prices.txt", typed), *options, stdin=printed)
+
+    def check_against_reference(self, reading: int, n: int, e: int, numbers: Sequence[float],
+                                prices: Sequence[float]) -> str:
+        """The bits, the allowance and the decision of the reference; which decision that is."""
+        printed = dwell(packed(reading, n, [reference.bits_of(x) for x in numbers], e))
+        expected = reference.request_prices(reading, n, e, numbers, prices, n)
+        result = self.listed(printed, prices, "--hex")
+        if isinstance(expected, reference.Refused):
+            self.assertEqual(expected, reference.Refused(10))
+            self.assertEqual((result.status, result.out, result.err.count("\n")), (1, b"", 1))
+            of_table = printed == b"refused 10 0 0\n"
+            start = "refused (10): a step of the " + ("calculation " if of_table else "price at stage ")
+            self.assertTrue(result.err.startswith(start), result.err)
+            return "table" if of_table else "prices"
+        self.assertEqual((result.status, result.err), (0, ""))
+        texts = split_list(result.out, [f"s{j + 1}" for j in range(n)])[1]
+        self.assertEqual([nearest(value(text)) for text in texts], [reference.bits_of(x) for x in expected.entries])
+        self.assertNotIn("-0x", result.out.decode())
+        self.check_accuracy_line(result.out, expected.allowance)
+        return "accepted"
+
+    def check_list(self, typed: Typed, prices: Sequence[str]) -> bool:
+        """make, dwell and prices on a typed sheet against the exact prices of what the sheet holds; whether they are
+        accepted."""
+        self.write("line.txt", as_lines(typed))
+        self.write("prices.txt", as_price_lines(typed.names, prices))
+        printed = dwell(self.good("make", "line.txt"))
+        if printed.startswith(b"refused"):
+            return False
+        n, e = len(typed.names), power_of(typed.unit)
+        out = self.good("prices", "prices.txt", "--names", "line.txt", stdin=printed)
+        first, texts, rows = split_list(out, typed.names)
+        self.assertEqual(first, f"Price of a request by the stage at which it enters, for prices per {paid_for(e)}:")
+        self.check_alignment(rows, typed.names)
+        self.assertEqual(idle_line(out) != "", len(live_stages(typed)) < n)
+        allowance = (4 if typed.reading == 1 else 12) * n ** 3 + n
+        self.check_accuracy_line(out, allowance)
+        paid = [rounded_value(price) for price in prices]
+        for text, times in zip(texts, exact_seconds(typed, rounded_value), strict=True):
+            self.assert_shortest(text, float(text))
+            exact = sum((x * price for x, price in zip(times, paid, strict=True)), Fraction(0))
+            self.assertTrue(is_near(float(text), exact, allowance), text)
+        self.check_hexadecimal(printed, typed.names, [nearest(value(text)) for text in texts])
+        return True
+
+    def check_hexadecimal(self, printed: bytes, names: Sequence[str], words: Sequence[int]) -> None:
+        """With --hex the same bits are printed as hexadecimal floats without needless zeros."""
+        out = self.good("prices", "prices.txt", "--hex", "--names", "line.txt", stdin=printed)
+        _, texts, rows = split_list(out, names)
+        self.assertEqual([nearest(value(text)) for text in texts], list(words))
+        for text in texts:
+            self.assertRegex(text, r"^0x(0p\+0|1(\.[0-9a-f]{0,12}[1-9a-f])?p[+-]\d+)$")
+        self.check_alignment(rows, names)
+
+    def test_document_sheet_p(self) -> None:
+        """Sheet P of document 01 at the prices 1 and 2: the whole list, from standard input and from a file."""
+        out = ("Price of a request by the stage at which it enters, for prices per second:\n\ns1  3\ns2  5\n\n"
+               "Each number is within a factor (1 + 1/2^53)^34 of the exact one, off by at most 3.8e-15 of it.\n")
+        self.assertEqual(self.listed(dwell(self.P), [1.0, 2.0]), Result(0, out.encode(), ""))
+        self.write("out.txt", dwell(self.P))
+        self.assertEqual(self.good("prices", "prices.txt", "out.txt").decode(), out)
+        self.assertEqual(self.good("prices", "prices.txt", "-", stdin=dwell(self.P)).decode(), out)
+        self.assertEqual(self.good("prices", "prices.txt", "out.txt", "--hex").decode(),
+                         out.replace(" 3\n", " 0x1.8p+1\n").replace(" 5\n", " 0x1.4p+2\n"))
+        self.write("line.txt", 'reading margins\nstages a "b c"\n')
+        named = self.good("prices", "-", "out.txt", "--names", "line.txt", stdin=b'"b c" 2\na 1\n')
+        self.assertEqual(named.decode(), out.replace("s1  3", "a    3").replace("s2  5", "b c  5"))
+
+    def test_known_prices(self) -> None:
+        """The order of the sum, the rounding of each operation, both readings and zeros of either sign, by hand."""
+        chain, two_53 = [0.0, -1.0, 0.0, 0.0, 0.0, -1.0, 0.0, 0.0, 1.0], 2.0 ** 53
+        for reading, n, numbers, prices, expected in [
+                (1, 1, [2.0], [3.0], ["1.5"]), (2, 2, [3.0, -1.0, -4.0, 1.0], [1.0, 3.0], ["1.25", "4"]),
+                (2, 2, [2.0, 0.0, -1.0, 4.0], [8.0, 16.0], ["4", "5"]),
+                (1, 3, chain, [two_53, 1.0, 1.0], ["9007199254740992", "2", "1"]),
+                (1, 3, chain, [1.0, 1.0, two_53], ["9007199254740994", "9007199254740992", "9007199254740992"]),
+                (1, 2, [0.0, -1.0, 0.0, 3.0], [1.0, 3.0], ["2", "1"]),
+                (1, 2, [1.0, -1.0, -1.0, 0.0], [-0.0, 1.0], ["1", "2"]),
+                (1, 2, [1.0, -1.0, -1.0, 0.0], [-0.0, -0.0], ["0", "0"])]:
+            result = self.listed(dwell(packed(reading, n, [reference.bits_of(x) for x in numbers])), prices)
+            self.assertEqual((result.status, result.err), (0, ""))
+            self.assertEqual(split_list(result.out, [f"s{j + 1}" for j in range(n)])[1], expected)
+
+    def test_random_sheets(self) -> None:
+        """Random sheets of both readings and random prices against exact fractions."""
+        rng = random.Random(13)
+        accepted = 0
+        for n in (1, 2, 2, 3, 3, 4, 5, 6):
+            for reading in (1, 2):
+                typed = random_typed(rng, reading, n, random_rate)
+                accepted += self.check_list(typed, [rng.choice(["0", random_rate(rng)]) for _ in range(n)])
+        self.assertGreater(accepted, 8)
+
+    def test_thirty_two_stages(self) -> None:
+        """A loop of 32 stages with leaving rates of a millionth."""
+        rates = {(i, (i + 1) % 32): f"0.{i + 1}" for i in range(32)}
+        typed = Typed(1, [f"bench {k}" for k in range(1, 33)], rates, {i: "1e-6" for i in range(32)})
+        self.assertTrue(self.check_list(typed, [f"{k}e-3" for k in range(32)]))
+
+    def test_reference(self) -> None:
+        """Random sheets in random units, often with idle stages, at random prices: bits and decisions."""
+        rng = random.Random(14)
+        decisions = []
+        for at in range(300):
+            reading, n = rng.choice([1, 2]), rng.randint(1, 6) if at % 20 else rng.randint(7, 16)
+            numbers = reference.random_sheet(rng, reading, n, reference.random_style(rng, 300 if n < 7 else 30))
+            total = n + rng.choice([0, 0, 1, 2]) if reading == 1 else n
+            numbers = reference.among_idle(rng, n, numbers, total)[1]
+            decisions.append(self.check_against_reference(reading, total, reference.random_unit(rng), numbers,
+                                                          reference.random_prices(rng, total)))
+        for decision, least in (("accepted", 100), ("table", 5), ("prices", 20)):
+            self.assertGreater(decisions.count(decision), least, decision)
+
+    def test_reference_at_the_edge(self) -> None:
+        """Prices one last place apart, of which the reference accepts the first alone."""
+        rng = random.Random(15)
+        pairs = []
+        for _ in range(60):
+            reading, n = rng.choice([1, 2]), rng.randint(1, 4)
+            numbers = reference.random_sheet(rng, reading, n, reference.random_style(rng, 30))
+            edge = reference.price_edge_pair(rng, reading, n, numbers, reference.random_prices(rng, n))
+            if edge is not None:
+                pairs.append([self.check_against_reference(reading, n, 0, numbers, prices) for prices in edge])
+        self.assertGreater(len(pairs), 20)
+        self.assertEqual(pairs, [["accepted", "prices"]] * len(pairs))
+
+    def test_steps_out_of_range(self) -> None:
+        """A product that is too small or overflows and a sum that overflows are refused at the first stage that has
+        one; a zero beside a number of any size is not."""
+        most, least = reference.LARGEST, 2.0 ** -1022
+        one, half, twice, large = (packed(1, 1, [reference.bits_of(x)]) for x in (1.0, 2.0, 0.5, 2.0 ** -600))
+        later = packed(1, 2, [reference.bits_of(x) for x in (1.0, 0.0, -1.0, 0.0)])   # its table is [1, 0 | 1, 1]
+        for data, prices, stage in [
+                (one, [least], 1), (half, [(2 - 2.0 ** -52) * least], 1), (half, [2 * least], 1), (twice, [most], 1),
+                (large, [2.0 ** 424], 1), (self.P, [most, most], 1), (self.P, [most, most / 2], 1),
+                (later, [most, most], 2), (later, [1.0, least], 2), (later, [most, 2.0 ** 971], 2)]:
+            self.assertEqual(self.listed(dwell(data), prices), Result(
+                1, b"", f"refused (10): a step of the price at stage {stage} (s{stage}) {self.OUT_OF_RANGE}\n"))
+        for data, prices, expected in [
+                (one, [2 * least], ["0x1p-1021"]), (half, [(2 + 2.0 ** -51) * least], ["0x1.0000000000001p-1022"]),
+                (twice, [most / 2], ["0x1.fffffffffffffp+1023"]), (large, [2.0 ** 423], ["0x1p+1023"]),
+                (self.P, [most, 0.0], ["0x1.fffffffffffffp+1023"] * 2), (later, [1.0, 2 * least], ["0x1p+0"] * 2),
+                (later, [0.0, 2 * least], ["0x0p+0", "0x1p-1021"]),
+                (later, [most, 2.0 ** 969], ["0x1.fffffffffffffp+1023"] * 2)]:
+            result = self.listed(dwell(data), prices, "--hex")
+            self.assertEqual((result.status, result.err), (0, ""))
+            self.assertEqual(split_list(result.out, ["s1", "s2"][:len(prices)])[1], expected)
+
+    def test_out_of_range_with_names(self) -> None:
+        """The sentence has the stage's name."""
+        self.write("names.txt", 'reading leaving-rates\nstages a "key check"\n')
+        self.write("prices.txt", 'a 0x1p1023\n"key check" 0x1p1023\n')
+        self.assertEqual(self.bad("prices", "prices.txt", "--names", "names.txt", stdin=dwell(
+            packed(1, 2, [nearest(Fraction(x)) for x in (1, 0, -1, 0)]))),
+            f"refused (10): a step of the price at stage 2 (key check) {self.OUT_OF_RANGE}")
+
+    def test_idle_stages(self) -> None:
+        """Idle stages are named; the price of a request there is zero, and their unit prices change no other."""
+        self.write("line.txt", Idle.LINES)
+        printed = dwell(self.good("make", "line.txt"))
+        names = ["a", "gluing", "b", "packing"]
+        for idle_prices in (("0", "0"), ("7", "0x1.8p1000"), ("0x1p-1022", "1e308")):
+            self.write("prices.txt", as_price_lines(names, ["1", idle_prices[0], "2", idle_prices[1]]))
+            out = self.good("prices", "prices.txt", "--names", "line.txt", stdin=printed)
+            self.assertEqual(split_list(out, names)[1], ["3", "0", "5", "0"])
+            self.assertEqual(idle_line(out), "Idle, without any rate or leaving rate: gluing, packing. No time is "
+                                             "spent there, so their unit prices do not count and their request "
+                                             "prices are zero.")
+            self.check_accuracy_line(out, 260)
+        self.write("line.txt", 'reading leaving-rates\nstages a "glue, then press"\na leaves 4\n')
+        self.write("prices.txt", 'a 2\n"glue, then press" 1\n')
+        printed = dwell(self.good("make", "line.txt"))
+        out = self.good("prices", "prices.txt", "--names", "line.txt", "--hex", stdin=printed)
+        self.assertEqual(split_list(out, ["a", "glue, then press"])[1], ["0x1p-1", "0x0p+0"])
+        self.assertEqual(idle_line(out), 'Idle, without any rate or leaving rate: "glue, then press". No time is spent '
+                                         "there, so its unit price does not count and its request price is zero.")
+        result = self.listed(dwell(self.P), [0.0, 0.0])
+        self.assertEqual((split_list(result.out, ["s1", "s2"])[1], idle_line(result.out)), (["0", "0"], ""))
+
+    def test_units(self) -> None:
+        """The heading says what prices are per, and no number depends on the unit."""
+        for e, unit in [(0, "second"), (-10, "tick of 1/1,024 second"), (10, "2^10 seconds"), (-1, "2^-1 seconds"),
+                        (512, "2^512 seconds"), (-512, "2^-512 seconds")]:
+            result = self.listed(dwell(packed(1, 2, Units.WORDS, e)), [1.0, 2.0])
+            self.assertEqual((result.status, result.err), (0, ""))
+            first, texts, _ = split_list(result.out, ["s1", "s2"])
+            self.assertEqual(first, f"Price of a request by the stage at which it enters, for prices per {unit}:")
+            self.assertEqual(texts, ["3", "5"])
+
+    def test_refused_by_dwell(self) -> None:
+        """A refusal of dwell is told in the words of the table command, whatever the prices are."""
+        self.write("names.txt", "reading leaving-rates\nstages a b\n")
+        self.write("prices.txt", "nobody -1\n")
+        for data, start in [(packed(1, 2, [nearest(Fraction(x)) for x in (1, -1, 0, 0)]),
+                             "refused (9 at row 2): a request at stage 2 (b) never gets out"),
+                            (packed(1, 1, [nearest(Fraction(2) ** 1022)]), "refused (10): a step of the calculation"),
+                            (packed(2, 2, [0] * 4), "refused (7 at row 1, column 1): "), (b"", "refused (11): ")]:
+            said = self.bad("prices", "prices.txt", "--names", "names.txt", stdin=dwell(data))
+            self.assertTrue(said.startswith(start), said)
+            self.assertEqual(said, self.bad("table", "--names", "names.txt", stdin=dwell(data)))
+        self.assertEqual(self.bad("prices", "prices.txt", stdin=b"refused 19 2 0\n"),
+                         self.bad("table", stdin=b"refused 19 2 0\n"))
+
+    def test_other_input(self) -> None:
+        """What dwell did not print, and names that are too many, are told as by the table command."""
+        self.write("prices.txt", "s1 1\ns2 1\n")
+        self.assertEqual(self.bad("prices", "prices.txt", stdin=b"hello\n"),
+                         "<stdin>:1: this is not dwell's output ('seconds' or 'refused' and numbers)")
+        self.write("names.txt", "reading leaving-rates\nstages a b c\n")
+        self.assertEqual(self.bad("prices", "prices.txt", "--names", "names.txt", stdin=dwell(self.P)),
+                         "names.txt: the text names 3 stages, <stdin> has 2")
+
+
 class Refusals(ToolTest):
     """Refusals in words."""
 
@@ -955,7 +1412,7 @@ class Refusals(ToolTest):
              6: "not a finite number", 7: "wrong sign", 8: "too small", 9: "never gets out", 10: "range of binary64",
              11: "the file ends before", 12: "does not begin with the head", 13: "something else where",
              14: "goes on after", 15: "power of two to move by", 16: "a number that is moved",
-             17: "the unit of the moved sheet"}
+             17: "the unit of the moved sheet", 18: "the prices are not n in number", 19: "the unit price of"}
 
     def said(self, printed: bytes) -> str:
         """What table says of a refusal, with names."""
@@ -963,9 +1420,10 @@ class Refusals(ToolTest):
         return self.bad("table", "--names", "names.txt", stdin=printed)
 
     def test_every_number(self) -> None:
-        """Each number from 1 to 17 in one sentence, with the place and the stages' names where it has them."""
+        """Each number from 1 to 19 in one sentence, with the place and the stages' names where it has them."""
+        self.assertEqual(list(self.WORDS), list(range(1, 20)))
         for refusal, words in self.WORDS.items():
-            row = 2 if refusal in (6, 7, 8, 9, 11, 13) else 0
+            row = 2 if refusal in (6, 7, 8, 9, 11, 13, 19) else 0
             column = 3 if refusal in (6, 7, 8) else 0
             sentence = self.said(f"refused {refusal} {row} {column}\n".encode())
             place = f" at row {row}" * bool(row) + f", column {column}" * bool(column)
@@ -975,6 +1433,20 @@ class Refusals(ToolTest):
             self.assertEqual("stage 2 (key ceremony)" in sentence, row == 2, sentence)
             self.assertEqual("stage 3 (signer)" in sentence, column == 3, sentence)
             self.assertNotRegex(sentence, r"[{}]|stage 0")
+
+    def test_prices(self) -> None:
+        """The sentences that speak of prices, which calls of the library may be refused with."""
+        for printed, sentence in [
+                (b"refused 4 0 0\n", "refused (4): the room lent for the answer is smaller than it needs (n × n "
+                 "numbers for a table or a sheet, n for one column or for prices, the file's bytes for saving)."),
+                (b"refused 10 0 0\n", "refused (10): a step of the calculation leaves the range of binary64 numbers, "
+                 "since some rates or prices are too large, too small or too far apart."),
+                (b"refused 18 0 0\n", "refused (18): the prices are not n in number, one for each of the sheet's n "
+                 "stages."),
+                (b"refused 19 2 0\n", "refused (19 at row 2): the unit price of stage 2 (key ceremony) is not a "
+                 "number, is infinite or negative, or is too small (a price is zero or at least 2^-1022, about "
+                 "2.2e-308).")]:
+            self.assertEqual(self.said(printed), sentence)
 
     def test_places(self) -> None:
         """On the diagonal it is a leaving rate or a margin, elsewhere a rate; row 0 of a file is its head."""
@@ -1044,6 +1516,23 @@ class Garbage(ToolTest):
                 shown = self.good("show", "-", "--names", self.write("line.txt", text), stdin=made.out)
                 self.assertEqual(self.good("make", "-", stdin=shown), made.out)
 
+    def test_unit_prices(self) -> None:
+        """Unit prices in both forms with stretches replaced, and dwell's output that no dwell prints."""
+        rng = random.Random(9)
+        pieces = [b"", b"\n", b'"', b"#", b",", b";", b"\t", b"->", b" ", b"-", b"0", b"1e9", b"\xff", b"\0", b"\r",
+                  b"price", b"\xc2\xa0", b"\xe2\x80\xa8", b"nan", b"1e308", b"s1", b'"#7" 5']
+        texts = [b"s1 0.5\ns2 1e-6 # x\n", b"stage,price\ns1,0.5\ns2,1\n", b"x;Price\ns2;1\ns1;0x1p-1022\n"]
+        one = nearest(Fraction(1))
+        entries = [0, 1, 1 << 63, one, one | 1 << 63, *(top << 48 for top in (0x7ff0, 0xfff0, 0x7ff8, 0x7fe0, 0x10))]
+        for _ in range(400):
+            words = [rng.choice(entries) if rng.random() < 0.5 else one for _ in range(4)]
+            output = "seconds 2 32 0\n" + "".join(f"{place // 2 + 1} {place % 2 + 1} {word:016x}\n"
+                                                  for place, word in enumerate(words))
+            text = rng.choice(texts)
+            self.write("prices.txt", self.changed(rng, text, pieces) if rng.random() < 0.7 else text)
+            self.check("prices", "prices.txt", stdin=output.encode())
+            self.check("prices", "prices.txt", "--hex", stdin=output.encode())
+
     def test_files_and_output(self) -> None:
         """Sheet files and dwell's output with bytes replaced."""
         rng = random.Random(7)
@@ -1088,6 +1577,9 @@ def to_digits(x: Fraction, digits: int) -> Fraction:
 class Examples(ToolTest):
     """What the examples say is true."""
 
+    CARDS = Typed(1, ["Receive", "Sign", "Key check", "Ship"],
+                  {(0, 1): "0.25", (1, 2): "0.125", (2, 1): "0.025", (2, 3): "0.22"}, {2: "0.005", 3: "0.5"})
+
     def seconds(self, name: str, names: Sequence[str]) -> list[list[Fraction]]:
         """The table of an example, read from its decimals."""
         path = str(ROOT / "examples" / name)
@@ -1126,12 +1618,9 @@ class Examples(ToolTest):
 
     def test_cards(self) -> None:
         """The matrix says the same as lines with its numbers."""
-        names = ["Receive", "Sign", "Key check", "Ship"]
-        typed = Typed(1, names, {(0, 1): "0.25", (1, 2): "0.125", (2, 1): "0.025", (2, 3): "0.22"},
-                      {2: "0.005", 3: "0.5"})
-        self.assertEqual(self.good("make", str(ROOT / "examples" / "cards.csv")), expected_file(typed))
-        exact = exact_inverse(exact_matrix(typed))
-        for row, exact_row in zip(self.seconds("cards.csv", names), exact, strict=True):
+        self.assertEqual(self.good("make", str(ROOT / "examples" / "cards.csv")), expected_file(self.CARDS))
+        exact = exact_inverse(exact_matrix(self.CARDS))
+        for row, exact_row in zip(self.seconds("cards.csv", self.CARDS.names), exact, strict=True):
             for x, y in zip(row, exact_row, strict=True):
                 self.assertLessEqual(abs(x - y), y / 10 ** 15)
 
@@ -1177,6 +1666,18 @@ class Examples(ToolTest):
         in_ticks = self.good("table", "--names", str(path), "--hex", stdin=dwell(self.good("make", str(path))))
         self.assertEqual([[value(text) for text in row] for row in split_table(in_ticks, typed.names)[1]],
                          [[value(text) * 1024 for text in row] for row in split_table(out, typed.names)[1]])
+
+    def test_prices(self) -> None:
+        """The prices are for the stages of the cards, and those of the list are exact; of a card that enters at the key
+        check, 1.07 cents are for the signer."""
+        path, cards = str(ROOT / "examples" / "prices.txt"), str(ROOT / "examples" / "cards.csv")
+        typed = dict(re.findall(r'^"?(\w[\w ]*\w)"? +([0-9.]+)', Path(path).read_text(), re.MULTILINE))
+        self.assertEqual(sorted(typed), sorted(self.CARDS.names))
+        paid = [[x * value(typed[name]) for x, name in zip(times, self.CARDS.names, strict=True)]
+                for times in exact_seconds(self.CARDS)]
+        out = self.good("prices", path, "--names", cards, stdin=dwell(self.good("make", cards)))
+        self.assertEqual([value(text) for text in split_list(out, self.CARDS.names)[1]], [sum(row) for row in paid])
+        self.assertEqual(to_digits(paid[2][1], 3), Fraction("1.07"))
 
     def test_walk_through(self) -> None:
         """Each command of the walk-through prints what stands below it."""

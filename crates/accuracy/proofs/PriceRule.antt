@@ -43,7 +43,7 @@ terms-near e f g (suc m) h t =
 
 pub price-sum : PriceSum
 unfolding PriceSum requestPrice exactPrice priceInRange sum total
-price-sum zero E x y c i near good t = zero-near (E + 0)
+price-sum zero E x y c i near good t = zero-near _
 price-sum (suc m) E x y c i near good t =
     let product : ℕ → Bool = λ j. mulInRange (x i j) (c j) in
     let f : ℕ → Float = λ j. x i j ⊗ c j in

@@ -1,7 +1,7 @@
--- The exact side on H, P, I and D, by computation from the definitions.
+-- The exact side on H, P, I and D, and exact prices, by computation from the definitions.
 use mathlib.Core.Path.{refl}
 use Rattle.definitions.proofs.Computing.{computing}
-use Rattle.definitions.specs.ExactExamples.{MatrixOfH, ExactTables, RuleOfD}
+use Rattle.definitions.specs.ExactExamples.{MatrixOfH, ExactTables, RuleOfD, ExactPrices}
 
 pub matrix-of-H : MatrixOfH
 unfolding computing
@@ -14,3 +14,7 @@ exact-tables = ((refl, refl, refl, refl), (refl, refl, refl, refl), (refl, refl,
 pub rule-of-D : RuleOfD
 unfolding computing
 rule-of-D X = (refl, refl, refl, refl)
+
+pub exact-prices : ExactPrices
+unfolding computing
+exact-prices = (refl, refl)

@@ -1,6 +1,6 @@
 -- The exact side on the sheets of document 01, "Sheets to try": H's matrix as printed there, tables that are exact inverses, and the
--- rule's y where a stage is idle.
-use Prim.Native.Nat.{ℕ}
+-- rule's y where a stage is idle; and exact prices.
+use Prim.Native.Nat.{ℕ, _+_, _*_}
 use mathlib.Core.List.{List, [], _∷_}
 use mathlib.Core.Bool.{cond}
 use mathlib.Core.Path.{_≡_}
@@ -9,7 +9,8 @@ use lib.Ieee.{Float}
 use Rattle.definitions.specs.Fractions.{Fraction, _≈_, whole, -ᶠ_, _*ᶠ_, value, total}
 use Rattle.definitions.specs.Sheet.{takesPart}
 use Rattle.definitions.specs.Matrix.{matrix}
-use Rattle.definitions.specs.Accuracy.{extended}
+use Rattle.definitions.specs.Accuracy.{extended, exactPrice}
+use Rattle.definitions.specs.Prices.{unitPrice}
 use Rattle.definitions.specs.Table.{entry}
 use Rattle.definitions.specs.Starred.{num, minus}
 
@@ -52,3 +53,9 @@ RuleOfD =
     × (extended (takesPart 1 2 sheetD) X 0 1 ≡ whole 0)
     × (extended (takesPart 1 2 sheetD) X 1 0 ≡ whole 0)
     × (extended (takesPart 1 2 sheetD) X 1 1 ≡ whole 0)
+
+-- Exact prices (document 02, U7), of the y [0, 1 | 2, 3] and prices 5 and 7: 0·5 + 1·7 and 2·5 + 3·7.
+unfoldable pub ExactPrices : Type 0
+ExactPrices =
+    let price = exactPrice 2 (λ i j. whole (2 * i + j)) (unitPrice (num 5 ∷ num 7 ∷ [])) in
+    (price 0 ≈ whole 7) × (price 1 ≈ whole 31)

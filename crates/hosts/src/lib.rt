@@ -76,7 +76,7 @@ pub extern "C" fn yulanbowls_prices(
     row: &mut usize,
     column: &mut usize,
 ) -> usize
-    ensures { λ r. ⌜ PricesCall reading n e (now (sheet .entry)) (now (prices .entry)) (now (answer .entry)) (now (answer .exit)) (now (allowance .entry)) (now (allowance .exit)) (now (row .exit)) (now (column .exit)) r ⌝ }
+    ensures { λ r. ⌜ PricesCall reading n e (now (sheet .entry)) (now (prices .entry)) (now (prices .exit)) (now (answer .entry)) (now (answer .exit)) (now (allowance .entry)) (now (allowance .exit)) (now (row .exit)) (now (column .exit)) r ⌝ }
 {
     table_calls::prices(reading, n, e, sheet, prices, answer, allowance, row, column)
 }

@@ -1,5 +1,5 @@
 -- The service's promise for each way that a call can end.
-use mathlib.Core.Path.{_≡_, sym, ap, subst, _∙_}
+use mathlib.Core.Path.{_≡_, refl, sym, ap, subst, _∙_}
 use Prim.Native.Nat.{ℕ, _<_}
 use mathlib.Core.Bool.{Bool, true, false}
 use mathlib.Core.List.{List, _++_}
@@ -29,17 +29,18 @@ accurate-same {n} {E} {on} {c = c} q e a =
 
 module _ (reading n : ℕ) (e : ℤ) (sheet prices before : List Float) where
   refused-with : {number row column : ℕ} → priceQuestions reading n e sheet prices (length before) ≡ refuse number row column
-      → PricesDone reading n e sheet prices before before (told.Refused number row column)
+      → PricesDone reading n e sheet prices prices before before (told.Refused number row column)
   unfolding priceAnswer priceArea
   refused-with is =
       record {
+        kept = refl;
         answered = ap (λ q. answer q (priceAllowance reading n)) (sym is);
         area = ap (λ q. filled q (requestPrices reading n sheet prices) before) (sym is);
         accurate = λ p. absurd (never-both is p);
       }
 
   pub prices-refused : {number row column : ℕ} → (priceInput reading n e sheet (length prices) (length before) then question19 n prices) ≡ refuse number row column
-      → PricesDone reading n e sheet prices before before (told.Refused number row column)
+      → PricesDone reading n e sheet prices prices before before (told.Refused number row column)
   unfolding priceQuestions
   prices-refused is =
       let ten = ask (pricesInRange reading n sheet prices) 10 0 0 in
@@ -53,19 +54,20 @@ module _ (reading n : ℕ) (e : ℤ) (sheet prices before : List Float) where
     fine : question19 n prices ≡ pass
     fine = then-next (priceInput reading n e sheet (length prices) (length before)) (question19 n prices) passed
 
-    pub prices-out-of-range : ok ≡ false → PricesDone reading n e sheet prices before before (told.Refused 10 0 0)
+    pub prices-out-of-range : ok ≡ false → PricesDone reading n e sheet prices prices before before (told.Refused 10 0 0)
     unfolding priceQuestions
     prices-out-of-range bad = refused-with (rw (input, fine, ← (stepped .range), bad))
 
     pub prices-given : {after : List Float} {allowed : ℕ} → Binary64 sheet → Binary64 prices → ok ≡ true
         → after ≡ list (vector ps) n ++ drop n before → allowed ≡ priceAllowance reading n
-        → PricesDone reading n e sheet prices before after (told.Allowed allowed)
+        → PricesDone reading n e sheet prices prices before after (told.Allowed allowed)
     unfolding priceAnswer priceArea priceQuestions requestPrices
     prices-given {after} fit held good written a =
         let f : ℕ → Float = requestPrice n (entry reading n sheet) (unitPrice prices) in
         let asked : priceQuestions reading n e sheet prices (length before) ≡ pass = rw (input, fine, ← (stepped .range), good) in
         let same : after ≡ list f n ++ drop n before = written ∙ ap (λ (xs : List Float). xs ++ drop n before) (list-same (vector ps) f n (stepped .price (holds good))) in
         record {
+          kept = refl;
           answered = ap given a ∙ ap (λ q. answer q (priceAllowance reading n)) (sym asked);
           area = same ∙ ap (λ (k : ℕ). list f n ++ drop k before) (sym (length-list f n)) ∙ ap (λ q. filled q (list f n) before) (sym asked);
           accurate = λ p.

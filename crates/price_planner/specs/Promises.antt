@@ -17,8 +17,10 @@ use Rattle.tables.specs.Vectors.{IsVector, vector}
 use Rattle.answers.specs.declared.Filled.{Filled}
 use Rattle.answers.specs.Answers.{filledGiven}
 
--- The answer r, each place of the answer area before and after, and for an accepted call demand 3 of the prices in the area.
-pub record PricesDone (reading n : ℕ) (e : ℤ) (sheet prices before after : List Float) (r : Filled) : Type 0 where
+-- The answer r, the prices area afterwards ("left as it was"), each place of the answer area before and after, and for an accepted
+-- call demand 3 of the prices in it.
+pub record PricesDone (reading n : ℕ) (e : ℤ) (sheet prices left before after : List Float) (r : Filled) : Type 0 where
+  pub kept : left ≡ prices
   pub answered : filledGiven r ≡ priceAnswer reading n e sheet prices (length before)
   pub area : after ≡ priceArea reading n e sheet prices before
   pub accurate : priceQuestions reading n e sheet prices (length before) ≡ pass

@@ -12,14 +12,7 @@ use answers::Asked;
 use answers::Filled;
 
 // The questions that come before the steps.
-fn ask(
-    reading: usize,
-    n: usize,
-    e: i64,
-    sheet: &[f64],
-    prices: &[f64],
-    room: usize,
-) -> Asked
+fn ask(reading: usize, n: usize, e: i64, sheet: &[f64], prices: &[f64], room: usize) -> Asked
     ensures { λ r. let given = now (prices .entry) in ⌜ ComesTo (priceInput reading n e (now (sheet .entry)) (length given) room then question19 n given) (r .number) (r .row) (r .column) ⌝ }
 {
     let asked = sheet::price_input(reading, n, e, sheet, prices.len(), room);
@@ -54,7 +47,7 @@ fn prices_of_sheet(
     answer: &mut [f64],
 ) -> Filled
     requires { ⌜ (priceInput reading n e (now sheet) (length (now prices)) (length (now answer)) then question19 n (now prices)) ≡ pass ⌝ }
-    ensures { λ r. ⌜ PricesDone reading n e (now (sheet .entry)) (now (prices .entry)) (now (answer .entry)) (now (answer .exit)) r ⌝ }
+    ensures { λ r. ⌜ PricesDone reading n e (now (sheet .entry)) (now (prices .entry)) (now (prices .exit)) (now (answer .entry)) (now (answer .exit)) r ⌝ }
 {
     let mut p = [0.0; 32];
     if steps(reading, n, sheet, prices, &mut p) {
@@ -80,7 +73,7 @@ pub fn request_prices(
     prices: &[f64],
     answer: &mut [f64],
 ) -> Filled
-    ensures { λ r. ⌜ PricesDone reading n e (now (sheet .entry)) (now (prices .entry)) (now (answer .entry)) (now (answer .exit)) r ⌝ }
+    ensures { λ r. ⌜ PricesDone reading n e (now (sheet .entry)) (now (prices .entry)) (now (prices .exit)) (now (answer .entry)) (now (answer .exit)) r ⌝ }
 {
     let asked = ask(reading, n, e, sheet, prices, answer.len());
     if asked.number != 0 {

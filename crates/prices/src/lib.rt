@@ -22,8 +22,7 @@ fn good_price(x: f64) -> bool
     ensures { λ r. ⌜ r ≡ goodPrice x ⌝ }
 {
     let finite = rounding::is_finite(x);
-    let large =
-        (x == 0.0) | (2.2250738585072014e-308 <= x) | (x <= -2.2250738585072014e-308);
+    let large = (x == 0.0) | (2.2250738585072014e-308 <= x) | (x <= -2.2250738585072014e-308);
     finite & (0.0 <= x) & large
 }
 

@@ -103,7 +103,7 @@ pub fn ask_prices(reading: usize, n: usize, e: i64, held: usize, given: usize, r
     if shape != 0 {
         return shape;
     }
-    if room < n {
+    if n > room {
         return 4;
     }
     if given != n {

@@ -25,6 +25,6 @@ module _ {row column number : ℕ} where
       → ValueHanded (entryGiven r) was is row column number → EntryCall reading n e sheet i j was is row column number
   entry-call done told = record { answer = rw (done .answered) at told; accurate = done .accurate }
 
-  pub prices-call : {reading n : ℕ} {e : ℤ} {sheet prices before after : List Float} {r : Filled} {was is : ℕ} → PricesDone reading n e sheet prices before after r
-      → ValueHanded (filledGiven r) was is row column number → PricesCall reading n e sheet prices before after was is row column number
-  prices-call done told = record { answer = rw (done .answered) at told; area = done .area; accurate = done .accurate }
+  pub prices-call : {reading n : ℕ} {e : ℤ} {sheet prices left before after : List Float} {r : Filled} {was is : ℕ} → PricesDone reading n e sheet prices left before after r
+      → ValueHanded (filledGiven r) was is row column number → PricesCall reading n e sheet prices left before after was is row column number
+  prices-call done told = record { kept = done .kept; answer = rw (done .answered) at told; area = done .area; accurate = done .accurate }

@@ -37,8 +37,9 @@ pub record EntryCall (reading n : ℕ) (e : ℤ) (sheet : List Float) (i j : ℕ
   pub accurate : entryQuestions reading n e sheet i j ≡ pass
       → Accurate n (takesPart reading n sheet) (allowance reading n) (matrix reading n sheet) (entry reading n sheet)
 
--- Prices: the same places as a column's.
-pub record PricesCall (reading n : ℕ) (e : ℤ) (sheet prices before after : List Float) (allowed allowed' row column returned : ℕ) : Type 0 where
+-- Prices: the prices area afterwards, and the same places as a column's.
+pub record PricesCall (reading n : ℕ) (e : ℤ) (sheet prices left before after : List Float) (allowed allowed' row column returned : ℕ) : Type 0 where
+  pub kept : left ≡ prices
   pub answer : ValueHanded (priceAnswer reading n e sheet prices (length before)) allowed allowed' row column returned
   pub area : after ≡ priceArea reading n e sheet prices before
   pub accurate : priceQuestions reading n e sheet prices (length before) ≡ pass

@@ -66,7 +66,7 @@ pub fn prices(
     row: &mut usize,
     column: &mut usize,
 ) -> usize
-    ensures { λ r. ⌜ PricesCall reading n e (now (sheet .entry)) (now (prices .entry)) (now (answer .entry)) (now (answer .exit)) (now (allowance .entry)) (now (allowance .exit)) (now (row .exit)) (now (column .exit)) r ⌝ }
+    ensures { λ r. ⌜ PricesCall reading n e (now (sheet .entry)) (now (prices .entry)) (now (prices .exit)) (now (answer .entry)) (now (answer .exit)) (now (allowance .entry)) (now (allowance .exit)) (now (row .exit)) (now (column .exit)) r ⌝ }
 {
     let told = price_planner::request_prices(reading, n, e, sheet, prices, answer);
     out_places::hand_allowance(told, allowance, row, column)
