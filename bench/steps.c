@@ -109,14 +109,12 @@ int JOIN(column_, SUFFIX)(size_t n, const double *restrict sheet, size_t column,
 int JOIN(prices_, SUFFIX)(size_t n, const double *restrict sheet, const double *restrict prices,
                           double *restrict answer)
 {
-    double x[LIMIT * LIMIT], c[LIMIT];
+    double x[LIMIT * LIMIT];
     JOIN(steps_, SUFFIX)(n, sheet, x);
-    for (size_t j = 0; j < n; j++)
-        c[j] = prices[j] + 0.0;
     for (size_t i = 0; i < n; i++) {
         double sum = 0.0;
         for (size_t j = 0; j < n; j++)
-            sum += x[i * n + j] * c[j];
+            sum += x[i * n + j] * prices[j];
         answer[i] = sum;
     }
     return 1;
@@ -266,21 +264,19 @@ int JOIN(column_, SUFFIX)(size_t n, const double *restrict sheet, size_t column,
 int JOIN(prices_, SUFFIX)(size_t n, const double *restrict sheet, const double *restrict prices,
                           double *restrict answer)
 {
-    double x[LIMIT * LIMIT], c[LIMIT], p[LIMIT], flags[LIMIT] = {0.0}, flag = 0.0;
+    double x[LIMIT * LIMIT], p[LIMIT], flags[LIMIT] = {0.0}, flag = 0.0;
     if (!JOIN(steps_, SUFFIX)(n, sheet, x))
         return 0;
-    for (size_t j = 0; j < n; j++)
-        c[j] = prices[j] + 0.0;
     for (size_t i = 0; i < n; i++) {
         double sum = 0.0;
         for (size_t j = 0; j < n; j++)
-            sum += x[i * n + j] * c[j];
+            sum += x[i * n + j] * prices[j];
         flag = finite(flag, sum);
         p[i] = sum;
     }
     for (size_t i = 0; i < n; i++)
         for (size_t j = 0; j < n; j++)
-            flags[j] = above(flags[j], x[i * n + j] * c[j], least_product(c[j]), x[i * n + j]);
+            flags[j] = above(flags[j], x[i * n + j] * prices[j], least_product(prices[j]), x[i * n + j]);
     for (size_t j = 0; j < n; j++)
         flag += flags[j];
     if (flag != 0.0)

@@ -518,9 +518,8 @@ def column(reading: int, n: int, e: int, sheet: Sequence[float], stage: int,
 
 
 def request_price(row: Sequence[float], prices: Sequence[float]) -> float:
-    """The price at a stage (02, U7): starts at plus zero and adds entry (i, j) times price j, j rising.  A price
-    that is a zero of either sign counts as plus zero."""
-    return running_sum(0.0, (mul(x, price + 0.0) for x, price in zip(row, prices, strict=True)))
+    """The price at a stage (02, U7): starts at plus zero and adds entry (i, j) times price j, j rising."""
+    return running_sum(0.0, (mul(x, price) for x, price in zip(row, prices, strict=True)))
 
 
 def request_prices(reading: int, n: int, e: int, sheet: Sequence[float], prices: Sequence[float],

@@ -4,13 +4,14 @@ use native.Mathlib.Nat.{zero-add}
 use native.Mathlib.Omega.{arith}
 use mathlib.Core.Bool.{Bool, _&&_}
 use mathlib.Core.List.{List}
-use mathlib.Core.Path.{_≡_}
+use mathlib.Core.Path.{_≡_, refl, sym, _∙_}
+use mathlib.Core.Logic.{_⊎_, inl, inr}
 use lib.Dec.{T}
 use lib.IntN.{ℤ}
 use lib.ListN.{length, getD}
-use lib.Ieee.{Float, nan, le}
+use lib.Ieee.{Float, nan, binary64, le, fits}
 use lib.Ieee.Fits.{and-l, and-r}
-use Rattle.definitions.specs.Numbers.{_⊗_, 0·0, finite, mulInRange, sum, sumInRange, all}
+use Rattle.definitions.specs.Numbers.{_⊕_, _⊗_, 0·0, finite, isZero, addInRange, mulInRange, sum, sumInRange, all}
 use Rattle.definitions.specs.Fractions.{Fraction, _*ᶠ_, value, total}
 use Rattle.definitions.specs.Matrix.{matrix, everyStage}
 use Rattle.definitions.specs.Sheet.{takesPart, allowance}
@@ -21,46 +22,68 @@ use Rattle.definitions.specs.Prices.{unitPrice, question18, goodPrice, question
 use Rattle.rounding.specs.Good.{Good}
 use Rattle.rounding.proofs.Reversed.{le-not-above}
 use Rattle.rounding.proofs.RoundedSums.{range-before, range-last}
-use Rattle.rounding.proofs.Zeros.{size-of-positive}
+use Rattle.rounding.proofs.Laws.{good-finite, zero-is-good}
+use Rattle.rounding.proofs.Zeros.{plus-zero}
+use Rattle.rounding.proofs.AnyNumbers.{good-or-zero, plus-zero-of-sign, times-zero-of-sign}
 use Rattle.steps.proofs.All.{each-below}
 use Rattle.steps.proofs.QuestionLaws.{then-first, then-next, ask-yes, reading-passed, stages-yes}
 use Rattle.inverse.specs.Reduction.{NearFraction, EntryReduction}
 use Rattle.inverse.proofs.Reduction.{entry-reduction, zero-near}
-use Rattle.inverse.proofs.NearFractions.{near-more, near-plus, near-first, near-times}
+use Rattle.inverse.proofs.NearFractions.{near-more, near-plus, near-first, near-times, near-times-zero}
 use Rattle.accuracy.specs.PriceRule.{PriceSum, PriceRule}
 use Rattle.accuracy.proofs.Rule.{near-table}
 
+-- Wherever t is added it counts as a number that is within e of a fraction: a product with a price of minus zero is minus zero.
+record Term (e : ℕ) (t : Float) (p : Fraction) : Type 0 where
+  number : Float
+  near : NearFraction e number p
+  same : {s : Float} → Good s → s ⊕ t ≡ s ⊕ number
+
+module _ {e : ℕ} {x : Float} {p : Fraction} (a : NearFraction e x p) (c : Float) where
+  product-term : Good c ⊎ T (isZero c) → T (mulInRange x c) → Term (suc e) (x ⊗ c) (p *ᶠ value c)
+  product-term (inl g) t = record { number = x ⊗ c; near = near-times a g t; same = λ h. refl }
+  product-term (inr z) t =
+      record {
+        number = 0·0;
+        near = near-times-zero (suc e) c a z;
+        same = λ h. plus-zero-of-sign (x ⊗ c) h (times-zero-of-sign x c (good-finite (a .good)) z) ∙ sym (plus-zero h);
+      }
+
 -- Terms within e of fractions: the sum of m + 1 of them has m roundings.
 terms-near :
-    (e : ℕ) (f : ℕ → Float) (g : ℕ → Fraction) (m : ℕ) → ((j : ℕ) → j < suc m → NearFraction e (f j) (g j)) → T (sumInRange 0·0 f 0 (suc m))
+    (e : ℕ) (f : ℕ → Float) (g : ℕ → Fraction) (m : ℕ) → ((j : ℕ) → j < suc m → Term e (f j) (g j)) → T (sumInRange 0·0 f 0 (suc m))
     → NearFraction (e + m) (sum 0·0 f 0 (suc m)) (total everyStage g (suc m))
-unfolding sum total
-terms-near e f g zero h t = near-more (omega arith) (near-first (h 0 (omega arith)))
+unfolding sum total addInRange
+terms-near e f g zero h t = let first = h 0 (omega arith) in rw (first .same zero-is-good) (near-more (omega arith) (near-first (first .near)))
 terms-near e f g (suc m) h t =
     let before = terms-near e f g m (λ j l. h j (omega arith)) (range-before 0·0 f 0 (suc m) t) in
-    let last : NearFraction (e + m) (f (0 + suc m)) (g (suc m)) = rw (zero-add (suc m)) (near-more (omega arith) (h (suc m) (omega arith))) in
-    near-more (omega arith) (near-plus before last (range-last 0·0 f 0 (suc m) t))
+    let last : Term e (f (0 + suc m)) (g (suc m)) = rw (zero-add (suc m)) (h (suc m) (omega arith)) in
+    let is = last .same (before .good) in
+    rw is (near-more (omega arith) (near-plus before (near-more (omega arith) (last .near)) (rw is at (range-last 0·0 f 0 (suc m) t))))
+
+-- What passes question 19.
+price-kind : (c : Float) → T (fits binary64 c) → T (goodPrice c) → Good c ⊎ T (isZero c)
+unfolding goodPrice
+price-kind c held t =
+    let first = and-l (finite c && le 0·0 c) (largeEnough c) t in
+    good-or-zero c held (and-l (finite c) (le 0·0 c) first) (le-not-above 0·0 c (and-r (finite c) (le 0·0 c) first))
 
 pub price-sum : PriceSum
 unfolding PriceSum requestPrice exactPrice priceInRange sum total
-price-sum zero E x y c i near good t = zero-near _
-price-sum (suc m) E x y c i near good t =
+price-sum zero E x y c i near fine t = zero-near _
+price-sum (suc m) E x y c i near fine t =
     let product : ℕ → Bool = λ j. mulInRange (x i j) (c j) in
     let f : ℕ → Float = λ j. x i j ⊗ c j in
     near-more (omega arith)
     (terms-near (suc E) f (λ j. y i j *ᶠ value (c j)) m
-    (λ j l. near-times (near j l) (good j l) (each-below (suc m) product (and-l (all product 0 (suc m)) (sumInRange 0·0 f 0 (suc m)) t) j l))
+    (λ j l. product-term (near j l) (c j) (price-kind (c j) (fine j l .0) (fine j l .1)) (each-below (suc m) product (and-l (all product 0 (suc m)) (sumInRange 0·0 f 0 (suc m)) t) j l))
     (and-r (all product 0 (suc m)) (sumInRange 0·0 f 0 (suc m)) t))
 
 -- ---- the rule
--- Question 19 leaves good prices.
-price-good : (n : ℕ) (prices : List Float) → Binary64 prices → question19 n prices ≡ pass → (j : ℕ) → j < n → Good (unitPrice prices j)
-unfolding Binary64 question19 goodPrice unitPrice
-price-good n prices held q j l =
-    let c = getD prices j nan in
-    let fine = stages-yes (λ j. goodPrice (getD prices j nan)) 19 n q j l in
-    let first = and-l (finite c && le 0·0 c) (largeEnough c) fine in
-    size-of-positive c (held j) (and-l (finite c) (le 0·0 c) first) (le-not-above 0·0 c (and-r (finite c) (le 0·0 c) first)) .good
+price-fine : (n : ℕ) (prices : List Float) → Binary64 prices → question19 n prices ≡ pass → (j : ℕ) → j < n
+    → T (fits binary64 (unitPrice prices j)) × T (goodPrice (unitPrice prices j))
+unfolding Binary64 question19 unitPrice
+price-fine n prices held q j l = (held j, stages-yes (λ j. goodPrice (getD prices j nan)) 19 n q j l)
 
 module _ (reading n : ℕ) (e : ℤ) (sheet prices : List Float) (room : ℕ) (fit : Binary64 sheet) (held : Binary64 prices)
     (input : priceInput reading n e sheet (length prices) room ≡ pass) (fine : question19 n prices ≡ pass) (range : T (pricesInRange reading n sheet prices)) where
@@ -87,7 +110,7 @@ module _ (reading n : ℕ) (e : ℤ) (sheet prices : List Float) (room : ℕ) (f
         exact = table .exact;
         within = λ i l.
             entry-reduction (E + n) (requestPrice n x c i) (exactPrice n y c i)
-            (price-sum n E x y c i (λ j m. table .entry i j l m) (price-good n prices held fine)
+            (price-sum n E x y c i (λ j m. table .entry i j l m) (price-fine n prices held fine)
             (each-below n (priceInRange n x c) (and-r (everyStepInRange reading n sheet) tests steps) i l));
       }
 

@@ -1,5 +1,5 @@
 -- The accuracy rule of document 01, for both readings, and of one column.
-use Prim.Native.Nat.{ℕ, zero, _-_, _*_, _^_, _<_}
+use Prim.Native.Nat.{ℕ, zero, _-_, _*_, _<_}
 use native.Mathlib.Nat.{mul-le-mul}
 use native.Mathlib.Omega.{arith}
 use mathlib.Core.Bool.{Bool, true, false, _&&_, _||_}

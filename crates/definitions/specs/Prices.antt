@@ -7,16 +7,16 @@ use lib.Dec.{eqb}
 use lib.IntN.{ℤ}
 use lib.ListN.{length, getD}
 use lib.Ieee.{Float, nan, le}
-use Rattle.definitions.specs.Numbers.{_⊕_, _⊗_, 0·0, finite, mulInRange, sum, sumInRange, all}
+use Rattle.definitions.specs.Numbers.{_⊗_, 0·0, finite, mulInRange, sum, sumInRange, all}
 use Rattle.definitions.specs.Tables.{list}
 use Rattle.definitions.specs.Sheet.{allowance}
 use Rattle.definitions.specs.Table.{entry, everyStepInRange}
 use Rattle.definitions.specs.Questions.{Asked, ask, _then_, askStages, question4, largeEnough, shapeQuestions, numberQuestions}
 use Rattle.definitions.specs.Services.{Answer, answer, filled}
 
--- Price j, per unit of time at stage j: "each zero or positive". A zero of either sign counts as plus zero.
+-- Price j, per unit of time at stage j.
 unfoldable pub unitPrice : List Float → ℕ → Float
-unitPrice prices j = getD prices j nan ⊕ 0·0
+unitPrice prices j = getD prices j nan
 
 -- 18: "prices not n in number"; `given` is their count.
 unfoldable pub question18 : ℕ → ℕ → Asked
@@ -27,7 +27,7 @@ unfoldable pub goodPrice : Float → Bool
 goodPrice price = finite price && le 0·0 price && largeEnough price
 
 unfoldable pub question19 : ℕ → List Float → Asked
-question19 n prices = askStages (λ j. goodPrice (getD prices j nan)) 19 0 n
+question19 n prices = askStages (λ j. goodPrice (unitPrice prices j)) 19 0 n
 
 -- "Question 4 asks for n numbers; after it" 18: `held` and `room` are the lengths of the sheet and of the answer area.
 unfoldable pub priceShape : ℕ → ℕ → ℤ → ℕ → ℕ → ℕ → Asked

@@ -1,19 +1,19 @@
 -- Numbers near fractions: a sum and a product of two of them, counted in roundings.
 use Prim.Native.Nat.{ℕ, suc, _+_, _*_, _≤_}
-use native.Mathlib.Nat.{mul-pos, mul-comm}
+use native.Mathlib.Nat.{mul-pos, mul-comm, zero-mul, mul-zero}
 use native.Mathlib.Omega.{arith}
 use mathlib.Core.Path.{refl, subst, subst₂}
 use lib.Dec.{T}
 use lib.Ieee.{Float}
 use Rattle.exact.specs.Near.{Near}
-use Rattle.exact.proofs.Near.{near-trans, near-grow, near-scale, near-add}
-use Rattle.definitions.specs.Numbers.{_⊕_, _⊗_, 0·0, addInRange, mulInRange, units}
+use Rattle.exact.proofs.Near.{near-eq, near-trans, near-grow, near-scale, near-add}
+use Rattle.definitions.specs.Numbers.{_⊕_, _⊗_, 0·0, isZero, addInRange, mulInRange, units}
 use Rattle.definitions.specs.Fractions.{Fraction, whole, _+ᶠ_, _*ᶠ_, value}
 use Rattle.rounding.specs.Good.{Good, one·units}
-use Rattle.rounding.proofs.Laws.{one-pos, sum-good, sum-rounds, product-good, product-rounds}
+use Rattle.rounding.proofs.Laws.{one-pos, zero-is-good, units-zero, sum-good, sum-rounds, product-good, product-rounds}
 use Rattle.rounding.proofs.Zeros.{zero-plus}
 use Rattle.inverse.specs.Reduction.{Ratio, NearFraction}
-use Rattle.inverse.proofs.SignedFractions.{ratio-as, plain-add, plain-mul, plain-scale, whole-ratio, value-ratio}
+use Rattle.inverse.proofs.SignedFractions.{ratio-as, plain-add, plain-mul, plain-scale, whole-ratio, value-ratio, zero-ratio}
 
 pub near-more : {e f : ℕ} {x : Float} {y : Fraction} → e ≤ f → NearFraction e x y → NearFraction f x y
 near-more l a = record { z = a .z; d = a .d; positive = a .positive; ratio = a .ratio; good = a .good; near = near-grow l (a .near) }
@@ -62,4 +62,16 @@ near-times {e} {x} {c} a g t =
       ratio = plain-mul (a .ratio) (value-ratio g);
       good = product-good (a .good) g t;
       near = product-count e (units (x ⊗ c)) (units x) (units c) (a .z) (a .d) one·units (product-rounds x c (a .good) g t .near) (a .near);
+    }
+
+-- A product with a zero counts as plus zero.
+pub near-times-zero : {e : ℕ} {x : Float} {p : Fraction} (f : ℕ) (c : Float) → NearFraction e x p → T (isZero c) → NearFraction f 0·0 (p *ᶠ value c)
+near-times-zero f c a t =
+    record {
+      z = 0;
+      d = a .d * one·units;
+      positive = mul-pos (a .positive) one-pos;
+      ratio = ratio-as (plain-mul (a .ratio) (zero-ratio c t)) (mul-zero (a .z)) refl refl;
+      good = zero-is-good;
+      near = near-eq (rw (units-zero, zero-mul (a .d * one·units), zero-mul one·units));
     }

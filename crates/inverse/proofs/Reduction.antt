@@ -22,7 +22,7 @@ use Rattle.definitions.specs.Fractions.{Fraction, _≈_, whole, _*ᶠ_, total}
 use Rattle.definitions.specs.Matrix.{Stage, everyStage, Inverse}
 use Rattle.definitions.specs.Numbers.{0·0, units}
 use Rattle.definitions.specs.Accuracy.{growth, extended}
-use Rattle.inverse.specs.Reduction.{plusPart, minusPart, Ratio, delta, RowForm, Columns, Regular, Apart, fraction, InverseReduction, NearFraction, EntryReduction, NearInverse, TableReduction, Reduction, SystemInverse}
+use Rattle.inverse.specs.Reduction.{plusPart, minusPart, Ratio, delta, RowForm, Columns, Regular, Apart, fraction, InverseReduction, NearFraction, EntryReduction, TableReduction, Reduction, SystemInverse}
 use Rattle.inverse.proofs.PartialSums.{delta-other, delta-times, sum-delta, sum-mix}
 use Rattle.rounding.specs.Good.{Good, one·units}
 use Rattle.rounding.proofs.Laws.{one-pos, good-finite, zero-is-good, units-zero}

@@ -6,15 +6,16 @@ use native.Mathlib.Nat.{mul-comm, mul-pos, mul-le-mul-right, eq-of-mul-eq-mul-ri
 use native.Mathlib.Omega.{arith}
 use lib.Dec.{T, lit<}
 use lib.IntN.{ℤ, pos, negsuc, natAbs, _*ℤ_}
-use lib.Ieee.{Float, binary64}
+use lib.Ieee.{Float, nan, inf, fin, binary64, eq}
 use lib.Ieee.Bits.{cond-no}
 use Rattle.exact.specs.Sums.{sum}
 use Rattle.exact.proofs.Sums.{zero-sum, sum-end}
 use Rattle.exact.proofs.Near.{pos-left}
-use Rattle.definitions.specs.Numbers.{units}
+use Rattle.definitions.specs.Numbers.{isZero, units}
 use Rattle.definitions.specs.Fractions.{Fraction, _≈_, _≼_, whole, -ᶠ_, _+ᶠ_, _*ᶠ_, _/ᶠ_, numerator, value, total}
 use Rattle.rounding.specs.Good.{Good, one·units}
 use Rattle.rounding.proofs.Value.{by-parts}
+use Rattle.rounding.proofs.AnyNumbers.{zero-units}
 use Rattle.inverse.specs.Reduction.{plusPart, minusPart, Ratio}
 use Rattle.inverse.proofs.PartialSums.{cond-yes}
 use Rattle.inverse.proofs.Integers.{of-parts, to-parts, le-of-parts, neg-plus, neg-minus, sum-parts, product-parts}
@@ -311,6 +312,16 @@ value-den : (x : Float) → value x .den ≡ one·units
 unfolding value one·units
 value-den x = refl
 
--- A good number is so many units of 2^-1074.
+zero-numerator : (x : Float) → T (isZero x) → numerator x ≡ pos 0
+unfolding numerator isZero eq
+zero-numerator nan t = absurd t
+zero-numerator (inf s) t = absurd t
+zero-numerator (fin true m e) t = rw (zero-units (fin true m e) t)
+zero-numerator (fin false m e) t = ap pos (zero-units (fin false m e) t)
+
+-- A good number is so many units of 2^-1074, and a zero of either sign none.
 pub value-ratio : {x : Float} → Good x → Ratio (value x) (units x) 0 one·units
 value-ratio {x} g = record { across = rw (value-num x, good-numerator x g, value-den x) (omega arith) }
+
+pub zero-ratio : (x : Float) → T (isZero x) → Ratio (value x) 0 0 one·units
+zero-ratio x t = record { across = rw (value-num x, zero-numerator x t, value-den x) (omega arith) }

@@ -1,9 +1,10 @@
 -- Numbers that are no sizes: a factor or a dividend that is zero beside any number, and signs.
 use mathlib.Core.Path.{_≡_, refl, sym, ap, _∙_}
+use mathlib.Core.Logic.{_⊎_, inl, inr}
 use Prim.Native.Nat.{ℕ, zero, suc, _+_, _-_, _*_, _^_, _<_, zero-le}
 use native.Mathlib.Nat.{eq-of-mul-eq-mul-right, add-zero, sub-zero, zero-mul, mul-zero, mul-pos, zero-lt-suc}
 use native.Mathlib.Omega.{arith}
-use mathlib.Core.Bool.{Bool, true, false, _||_, cond, Bool·beq}
+use mathlib.Core.Bool.{Bool, true, false, not, _||_, cond, Bool·beq}
 use lib.Dec.{T, eqb, ltb, eqb→eq, eqb·suc-zero}
 use lib.Pow.{pow-pos}
 use lib.IntN.{ℤ, pos}
@@ -21,6 +22,7 @@ use Rattle.rounding.proofs.Value.{amount, amount-of-value, value, by-pa
 use Rattle.rounding.proofs.Round.{round-back}
 use Rattle.rounding.proofs.Laws.{units-is, zero-is-good}
 use Rattle.rounding.proofs.Finite.{zero-finite}
+use Rattle.rounding.proofs.Zeros.{minus-zero}
 
 -- ---- a factor that is zero
 module _ (m y : Float) where
@@ -84,6 +86,14 @@ zero-units (fin s n e) t =
     ∙ amount-of-value binary64 (fin s n e) s 0
     (refl, ap (λ (a : ℕ). a * 2 ^ low binary64) (zero-amount s n e t) ∙ zero-mul (2 ^ low binary64) ∙ sym (zero-mul (down e)))
 
+-- A number that is not below zero is good, or a zero of either sign.
+pub good-or-zero : (x : Float) → T (fits binary64 x) → T (finite x) → T (not (lt x 0·0)) → Good x ⊎ T (isZero x)
+unfolding finite
+good-or-zero nan f t l = absurd t
+good-or-zero (inf s) f t l = absurd t
+good-or-zero (fin false n e) f t l = inl record { plus = tt; held = f }
+good-or-zero (fin true n e) f t l = inr (amount-zero true n e (minus-zero n e l))
+
 round-zero : (s : Bool) (c : ℕ) → 0 < c → T (isZero (round binary64 s 0 c))
 round-zero s c C = from (round binary64 s 0 c) (round-exact binary64 s 0 c 0 0 C (pow-pos (prec binary64)) (pow-pos (low binary64 + suc (emax binary64))) (zero-mul (2 ^ low binary64) ∙ sym (zero-mul c)))
   where
@@ -120,27 +130,33 @@ plus-amount {x} g s n d z =
         (widened (m * up e) (down e) (amount binary64 (fin false m e)) (2 ^ low binary64) (down d) (value h .1))
         ∙ round-back h
 
-plus-zero-of-sign : {x : Float} (y : Float) → Good x → T (isZero y) → x ⊕ y ≡ x
+pub plus-zero-of-sign : {x : Float} (y : Float) → Good x → T (isZero y) → x ⊕ y ≡ x
 unfolding isZero eq
 plus-zero-of-sign nan g t = absurd t
 plus-zero-of-sign (inf s) g t = absurd t
 plus-zero-of-sign (fin s n d) g t = plus-amount g s n d (zero-amount s n d t)
 
-times-plus-zero : (m : Float) → T (finite m) → T (isZero (m ⊗ 0·0))
-unfolding mul finite
-times-plus-zero nan t = absurd t
-times-plus-zero (inf s) t = absurd t
-times-plus-zero (fin s n e) t = rw (mul-zero (n * up e)) (round-zero (unlike s false) (down e * 1) (mul-pos (down-pos e) (zero-lt-suc 0)))
+pub times-zero-of-sign : (m y : Float) → T (finite m) → T (isZero y) → T (isZero (m ⊗ y))
+unfolding mul finite isZero eq
+times-zero-of-sign nan y t z = absurd t
+times-zero-of-sign (inf s) y t z = absurd t
+times-zero-of-sign (fin s n e) nan t z = absurd z
+times-zero-of-sign (fin s n e) (inf r) t z = absurd z
+times-zero-of-sign (fin s n e) (fin r k d) t z =
+    rw (zero-amount r k d z, mul-zero (n * up e)) (round-zero (unlike s r) (down e * down d) (mul-pos (down-pos e) (down-pos d)))
+
+zero-is-zero : T (isZero 0·0)
+zero-is-zero = amount-zero false 0 (pos 0) refl
 
 pub zero-other : {x y : Float} (m : Float) → Good x → T (finite m) → y ≡ 0·0 → x ⊕ m ⊗ y ≡ x
-zero-other m g t e = rw e (plus-zero-of-sign (m ⊗ 0·0) g (times-plus-zero m t))
+zero-other m g t e = rw e (plus-zero-of-sign (m ⊗ 0·0) g (times-zero-of-sign m 0·0 t zero-is-zero))
 
 -- Zeros go through a step as zeros, whatever the finite multiplier.
 pub zero-step : (m : Float) → T (finite m) → T (addProductInRange 0·0 m 0·0)
 unfolding addProductInRange addInRange finite
 zero-step m t =
-    let z = times-plus-zero m t in
-    and-i (mulInRange m 0·0) (finite (0·0 ⊕ m ⊗ 0·0)) (any-zero-in-range m 0·0 (or-r (isZero m) (isZero 0·0) (amount-zero false 0 (pos 0) refl)) (zero-finite (m ⊗ 0·0) z))
+    let z = times-zero-of-sign m 0·0 t zero-is-zero in
+    and-i (mulInRange m 0·0) (finite (0·0 ⊕ m ⊗ 0·0)) (any-zero-in-range m 0·0 (or-r (isZero m) (isZero 0·0) zero-is-zero) (zero-finite (m ⊗ 0·0) z))
     (rw (zero-other {x = 0·0} m zero-is-good t refl) tt)
 
 -- A divisor that is zero gives no finite quotient.

@@ -71,7 +71,7 @@ size-of-negative (fin false m e) f t l =
     rw (no-units g (nltb→le 0 (units a) (rw (lt-units zero-is-good g, units-zero) at l)), own-difference) (record { good = zero-is-good; same = refl })
 
 -- Minus zero alone is not negative with the sign minus.
-minus-zero : (m : ℕ) (e : ℤ) → T (not (lt (fin true m e) 0·0)) → m * up e ≡ 0
+pub minus-zero : (m : ℕ) (e : ℤ) → T (not (lt (fin true m e) 0·0)) → m * up e ≡ 0
 unfolding lt
 minus-zero m e l =
     le-antisymm

@@ -15,11 +15,9 @@ returns c =
 
 returns-2 : tie.Need-returns-2
 returns-2 c =
-    let loaded = c .before .before .before .before in
-    let other = loaded .before .before in
+    let other = c .before .before .before in
     let stepped = other .before in
-    let s = stepped .before .before .before .before in
-    prices-stepped _ _ _ _ (stepped .steps .ensures) (not-false (stepped .steps .result) (other .if1 .left)) (s .pre .1) _ (loaded .load .ensures) (c .request-prices .ensures)
+    prices-stepped _ _ _ _ (stepped .steps .ensures) (not-false (stepped .steps .result) (other .if1 .left)) (c .request-prices .ensures)
 
 pub steps-spec : {M : Type 1} → statement M
 steps-spec =
@@ -27,6 +25,5 @@ steps-spec =
     (tie.spec
     (λ c κs. (c .before .before .before .pre .0, new-table zero-word))
     returns
-    (λ c κs. search needs)
     (λ c κs. search needs)
     returns-2)

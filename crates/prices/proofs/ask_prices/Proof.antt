@@ -5,17 +5,17 @@ use mathlib.Core.List.{List}
 use Prim.Native.Nat.{ℕ, _≤_, _-_, zero-le}
 use native.Mathlib.Omega.{arith}
 use borrow.Author.Needs.{needs}
-use lib.ListN.{length, getD}
-use lib.Ieee.{Float, nan}
+use lib.ListN.{length}
+use lib.Ieee.{Float}
 use Rattle.exact.proofs.Bools.{denied, granted}
-use Rattle.definitions.specs.Prices.{goodPrice, question19}
+use Rattle.definitions.specs.Prices.{unitPrice, goodPrice, question19}
 use Rattle.answers.proofs.Outcome.{all-pass, no}
 use Rattle.steps.proofs.Searches.{fromStage, all-stages, good-stage, bad-stage, no-stage}
 use Rattle.prices.proofs.ask_prices.Statement.{statement}
 use Rattle.prices.proofs.ask_prices.Tie as tie
 
 abbrev good : List Float → ℕ → Bool
-good prices j = goodPrice (getD prices j nan)
+good prices j = goodPrice (unitPrice prices j)
 
 abbrev Inv-loop : tie.InvT-loop
 Inv-loop prices j₀ j = (j ≤ length prices) × (question19 (length prices) prices ≡ fromStage (good prices) 19 (length prices) j)
@@ -28,12 +28,14 @@ unfolding question19
 loop-holds c = (zero-le, all-stages _ _ _)
 
 returns : tie.Need-returns Inv-loop μ-loop
+unfolding unitPrice
 returns c =
     let asked = c .before in
     let test = asked .before .before in
     no (λ z. omega arith) (test .before .loop .inv .1 ∙ bad-stage _ _ _ _ (test .loop-test .taken) (denied _ _ (asked .good-price .ensures) (c .if1 .taken)))
 
 loop-again : tie.Need-loop-again Inv-loop μ-loop
+unfolding unitPrice
 loop-again c =
     let asked = c .before in
     let test = asked .before .before in
