@@ -9,7 +9,7 @@ pub struct Asked {
     pub column: usize,
 }
 
-// The whole table or one column: the allowance of the numbers that fill the area.
+// The whole table, one column or prices: the allowance of the numbers that fill the area.
 pub enum Filled {
     Allowed {
         allowance: usize,

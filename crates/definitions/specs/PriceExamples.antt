@@ -33,7 +33,7 @@ priceLines =
     -- margins, whose table is [1, 0, 0 | 0, 1, 0 | 1, 1, 1]: a price adds a row, and j rises
     ∷ line 2 3 (num 1 ∷ num 0 ∷ num 0 ∷ num 0 ∷ num 1 ∷ num 0 ∷ minus (num 1) ∷ minus (num 1) ∷ num 1 ∷ []) (num (2 ^ 53) ∷ num 1 ∷ num 1 ∷ []) three
     (gives 327 (num (2 ^ 53) ∷ num 1 ∷ word 0x4340000000000000 ∷ []))
-    -- minus zero counts as zero
+    -- minus zero is a price, and gives plus zero
     ∷ single 1 (num 1) (minus (num 0)) (gives 5 (num 0 ∷ []))
     -- idle stages
     ∷ line 1 2 (num 1 ∷ num 0 ∷ num 0 ∷ num 0 ∷ []) (num 5 ∷ num 3 ∷ []) three (gives 34 (num 5 ∷ num 0 ∷ num 9 ∷ []))
