@@ -1,6 +1,6 @@
 -- From a loaded sheet to its column, and the service's promise for each way that a call can end.
-use mathlib.Core.Path.{_≡_, sym, ap, ap₂, subst, _∙_}
-use Prim.Native.Nat.{ℕ, _+_, _-_, _<_}
+use mathlib.Core.Path.{_≡_, sym, ap, ap₂, _∙_}
+use Prim.Native.Nat.{ℕ, _-_, _<_}
 use mathlib.Core.Bool.{Bool, true, false, _&&_, and-false}
 use mathlib.Core.List.{List, _++_}
 use lib.IntN.{ℤ}
@@ -10,17 +10,15 @@ use Rattle.exact.proofs.Bools.{holds, contrary}
 use Rattle.exact.proofs.Cases.{by-bool}
 use Rattle.definitions.specs.Numbers.{0·0, all}
 use Rattle.definitions.specs.LeavingRates.{downward, shared, column}
-use Rattle.definitions.specs.Fractions.{Fraction}
 use Rattle.definitions.specs.Tables.{list}
 use Rattle.definitions.specs.Sheet.{size, system, takesPart, allowance}
 use Rattle.definitions.specs.Table.{liveSystem, liveBegun, entry}
 use Rattle.definitions.specs.Questions.{pass, refuse}
-use Rattle.definitions.specs.Accuracy.{Binary64, Within, extended, AccurateColumn}
+use Rattle.definitions.specs.Accuracy.{Binary64}
 use Rattle.definitions.specs.Services.{given, answer, filled}
 use Rattle.definitions.specs.Column.{columnInput, columnOf, columnInRange, columnQuestions, stageColumn, columnAnswer, columnArea}
 use Rattle.steps.proofs.LiveStages.{entry-idle, column-of-live, column-of-idle, every-entry, every-column}
 use Rattle.steps.proofs.Same.{same-quotient, same-column-range}
-use Rattle.steps.proofs.TableLaws.{length-list, list-same, place-of-list}
 use Rattle.steps.proofs.QuestionLaws.{never-both}
 use Rattle.tables.specs.RowMajor.{table, Holds}
 use Rattle.tables.specs.Vectors.{IsVector, vector, ZeroVector}
@@ -34,6 +32,8 @@ use Rattle.live.proofs.LiveSteps.{live-same, live-counted, live-quotient}
 use Rattle.loading.specs.LoadedTable.{withSizes, withRates}
 use Rattle.loading.proofs.LoadedSheet.{rates-are, loaded-system}
 use Rattle.accuracy.proofs.Rule.{accurate-column}
+use Rattle.accuracy.proofs.Same.{same-vector}
+use Rattle.writing.proofs.AcceptedArea.{vector-area}
 use Rattle.rates_accuracy.proofs.Input.{column-numbers, column-stage}
 use Rattle.answers.specs.declared.Filled.the-variants as given-column
 use Rattle.column_planner.specs.Promises.{ColumnStepped, ColumnDone}
@@ -108,12 +108,6 @@ module _ {n j : ℕ} {sheet : List Float} {r : ℕ} {stages : List ℕ} {s : Lis
             ∙ ap (λ (v : ℕ → Float). v i) zeros
             ∙ idle-entry i (rw f)
 
--- Demand 3 looks only at the rows below n.
-accurate-same : {n E j : ℕ} {on : ℕ → Bool} {A : ℕ → ℕ → Fraction} {x : ℕ → Float} (y : ℕ → Float)
-    → ((i : ℕ) → i < n → x i ≡ y i) → AccurateColumn n on E A j x → AccurateColumn n on E A j y
-accurate-same {E = E} {j = j} {on = on} y e a =
-    record { X = a .X; exact = a .exact; within = λ i l. subst (λ z. Within E z (extended on (a .X) i j)) (e i l) (a .within i l) }
-
 module _ (reading n : ℕ) (e : ℤ) (sheet : List Float) (stage : ℕ) (before : List Float) where
   refused-with : {number row column : ℕ} → columnQuestions reading n e sheet (length before) stage ≡ refuse number row column
       → ColumnDone reading n e sheet stage before before (given-column.Refused number row column)
@@ -140,12 +134,12 @@ module _ (reading n : ℕ) (e : ℤ) (sheet : List Float) (stage : ℕ) (before 
         → ColumnDone reading n e sheet stage before after (given-column.Allowed allowed)
     unfolding columnAnswer columnArea columnQuestions stageColumn
     column-given {after} fit good written a =
-        let f : ℕ → Float = λ i. entry 1 n sheet i (stage - 1) in
         let asked : columnQuestions reading n e sheet (length before) stage ≡ pass = rw (passed, ← stepped .range, good) in
-        let same : after ≡ list f n ++ drop n before = written ∙ ap (λ (xs : List Float). xs ++ drop n before) (list-same (vector x) f n (stepped .entries (holds good))) in
+        let held = vector-area asked n before (λ i. entry 1 n sheet i (stage - 1)) x (stepped .entries (holds good)) written in
         record {
           answered = ap given a ∙ ap (λ q. answer q (allowance 1 n)) (sym asked);
-          area = same ∙ ap (λ (k : ℕ). list f n ++ drop k before) (sym (length-list f n)) ∙ ap (λ q. filled q (list f n) before) (sym asked);
-          accurate = λ p. accurate-same (λ i. getD after i nan) (λ i l. sym (ap (λ (xs : List Float). getD xs i nan) same ∙ place-of-list f n (drop n before) i l))
+          area = held .area;
+          accurate = λ p.
+              same-vector (λ i. getD after i nan) (held .at)
               (accurate-column n sheet fit (column-numbers reading n e sheet (length before) stage passed) (stage - 1) (column-stage reading n e sheet (length before) stage passed) (holds (sym (stepped .range) ∙ good)));
         }

@@ -42,21 +42,22 @@ pub record Accurate (n : ℕ) (on : ℕ → Bool) (E : ℕ) (A : ℕ → ℕ →
   pub exact : OnlyInverse n on A X
   pub within : (i j : ℕ) → i < n → j < n → Within E (x i j) (extended on X i j)
 
--- The same for every i and one j: the numbers x of column j alone (document 02, U2).
-pub record AccurateColumn (n : ℕ) (on : ℕ → Bool) (E : ℕ) (A : ℕ → ℕ → Fraction) (j : ℕ) (x : ℕ → Float) : Type 0 where
+-- The same for a vector: for every i the number x of stage i, beside the exact one that is made from the rule's y.
+pub record AccurateVector (n : ℕ) (on : ℕ → Bool) (E : ℕ) (A : ℕ → ℕ → Fraction) (made : (ℕ → ℕ → Fraction) → ℕ → Fraction) (x : ℕ → Float) : Type 0 where
   pub X : ℕ → ℕ → Fraction
   pub exact : OnlyInverse n on A X
-  pub within : (i : ℕ) → i < n → Within E (x i) (extended on X i j)
+  pub within : (i : ℕ) → i < n → Within E (x i) (made (extended on X) i)
 
--- The exact price of a request that enters at stage i, for the rule's y and prices c (document 02, U7).
+-- Column j of the table alone (document 02, U2).
+abbrev pub AccurateColumn : ℕ → (ℕ → Bool) → ℕ → (ℕ → ℕ → Fraction) → ℕ → (ℕ → Float) → Type 0
+AccurateColumn n on E A j x = AccurateVector n on E A (λ y i. y i j) x
+
+-- The exact price of a request that enters at stage i, for the rule's y and prices c (document 02, U7), and the prices p of every stage.
 unfoldable pub exactPrice : ℕ → (ℕ → ℕ → Fraction) → (ℕ → Float) → ℕ → Fraction
 exactPrice n y c i = total everyStage (λ j. y i j *ᶠ value (c j)) n
 
--- The same words for the prices p of every stage i.
-pub record AccuratePrices (n : ℕ) (on : ℕ → Bool) (E : ℕ) (A : ℕ → ℕ → Fraction) (c : ℕ → Float) (p : ℕ → Float) : Type 0 where
-  pub X : ℕ → ℕ → Fraction
-  pub exact : OnlyInverse n on A X
-  pub within : (i : ℕ) → i < n → Within E (p i) (exactPrice n (extended on X) c i)
+abbrev pub AccuratePrices : ℕ → (ℕ → Bool) → ℕ → (ℕ → ℕ → Fraction) → (ℕ → Float) → (ℕ → Float) → Type 0
+AccuratePrices n on E A c p = AccurateVector n on E A (λ y. exactPrice n y c) p
 
 -- The numbers of a lent sheet, or the prices, are binary64 numbers.
 unfoldable pub Binary64 : List Float → Type 0

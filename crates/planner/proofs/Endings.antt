@@ -1,24 +1,24 @@
 -- The promises of the services, for each way that a call can end.
-use mathlib.Core.Path.{_≡_, sym, ap, subst, _∙_}
-use Prim.Native.Nat.{ℕ, _*_, _-_, _<_}
+use mathlib.Core.Path.{_≡_, sym, ap, _∙_}
+use Prim.Native.Nat.{ℕ, _*_, _-_}
 use native.Mathlib.Omega.{arith}
 use mathlib.Core.Bool.{Bool, true, false}
 use mathlib.Core.List.{List, _++_}
 use lib.IntN.{ℤ}
 use lib.ListN.{length, drop}
 use lib.Ieee.{Float}
-use Rattle.definitions.specs.Fractions.{Fraction}
 use Rattle.definitions.specs.Sheet.{place, takesPart, allowance}
 use Rattle.definitions.specs.Tables.{rows}
 use Rattle.definitions.specs.Table.{entry}
 use Rattle.definitions.specs.Matrix.{matrix}
 use Rattle.definitions.specs.Questions.{pass, refuse, _then_, question4, question5, question10, numberQuestions, tableInput, tableQuestions, entryInput, entryQuestions}
-use Rattle.definitions.specs.Accuracy.{Binary64, Within, extended, Accurate}
+use Rattle.definitions.specs.Accuracy.{Binary64, Accurate}
 use Rattle.definitions.specs.Services.{given, answer, filled, table, tableAnswer, tableArea, entryAnswer}
 use Rattle.tables.specs.RowMajor as working
-use Rattle.steps.proofs.TableLaws.{length-rows, rows-same, place-of-rows}
 use Rattle.shape.proofs.ShapeQuestions.{entry-input-passed}
 use Rattle.accuracy.proofs.Rule.{accurate-table}
+use Rattle.accuracy.proofs.Same.{same-table}
+use Rattle.writing.proofs.AcceptedArea.{table-area}
 use Rattle.steps.proofs.QuestionLaws.{never-both, reading-passed}
 use Rattle.rates_accuracy.proofs.Input.{table-numbers, entry-numbers}
 use Rattle.answers.specs.declared.Filled.the-variants as given-table
@@ -27,16 +27,6 @@ use Rattle.readings.specs.Stepped.{Stepped}
 use Rattle.planner.specs.Promises.{TableDone, EntryDone}
 use Rattle.planner.proofs.Asked.{after-refusal, out-of-range, in-range}
 use Rattle.exact.proofs.Bools.{holds}
-
--- Demand 3 looks only at the entries below n.
-accurate-same : {n E : ℕ} {on : ℕ → Bool} {A : ℕ → ℕ → Fraction} {x : ℕ → ℕ → Float} (y : ℕ → ℕ → Float)
-    → ((i j : ℕ) → i < n → j < n → x i j ≡ y i j) → Accurate n on E A x → Accurate n on E A y
-accurate-same {n} {E} {on} y e a =
-    record {
-      X = a .X;
-      exact = a .exact;
-      within = λ i j hi hj. subst (λ z. Within E z (extended on (a .X) i j)) (e i j hi hj) (a .within i j hi hj);
-    }
 
 module _ (reading n : ℕ) (e : ℤ) (sheet : List Float) where
   -- The whole table: a refusal, in range or not, and the table.
@@ -75,14 +65,11 @@ module _ (reading n : ℕ) (e : ℤ) (sheet : List Float) where
       unfolding tableAnswer tableArea tableQuestions table
       table-given {after} {allowed} fit good written a =
           let all-asked = in-range reading n sheet passed (stepped .range) good in
-          let same : after ≡ rows (entry reading n sheet) n n ++ drop (n * n) before = written ∙ ap (λ (xs : List Float). xs ++ drop (n * n) before) (rows-same (working.table x) (entry reading n sheet) n n (stepped .entries (holds good))) in
+          let held = table-area all-asked n before (entry reading n sheet) x (stepped .entries (holds good)) written in
           record {
             answered = ap given a ∙ ap (λ q. answer q (allowance reading n)) (sym all-asked);
-            area =
-                same
-                ∙ ap (λ (k : ℕ). rows (entry reading n sheet) n n ++ drop k before) (sym (length-rows (entry reading n sheet) n n))
-                ∙ ap (λ q. filled q (rows (entry reading n sheet) n n) before) (sym all-asked);
-            accurate = λ p. accurate-same (place n after) (λ i j hi hj. sym (ap (λ (xs : List Float). place n xs i j) same ∙ place-of-rows (entry reading n sheet) n (drop (n * n) before) i j hi hj)) (table-accurate fit good);
+            area = held .area;
+            accurate = λ p. same-table (place n after) (held .at) (table-accurate fit good);
           }
 
   -- One entry in the same three ways.

@@ -1,31 +1,25 @@
 -- The service's promise for each way that a call can end.
-use mathlib.Core.Path.{_≡_, refl, sym, ap, subst, _∙_}
-use Prim.Native.Nat.{ℕ, _<_}
+use mathlib.Core.Path.{_≡_, refl, sym, ap, _∙_}
+use Prim.Native.Nat.{ℕ}
 use mathlib.Core.Bool.{Bool, true, false}
 use mathlib.Core.List.{List, _++_}
 use lib.IntN.{ℤ}
 use lib.ListN.{length, getD, drop}
 use lib.Ieee.{Float, nan}
 use Rattle.exact.proofs.Bools.{holds}
-use Rattle.definitions.specs.Fractions.{Fraction}
 use Rattle.definitions.specs.Tables.{list}
 use Rattle.definitions.specs.Table.{entry}
 use Rattle.definitions.specs.Questions.{pass, refuse, ask, _then_}
-use Rattle.definitions.specs.Accuracy.{Binary64, Within, extended, exactPrice, AccuratePrices}
+use Rattle.definitions.specs.Accuracy.{Binary64}
 use Rattle.definitions.specs.Services.{given, answer, filled}
 use Rattle.definitions.specs.Prices.{unitPrice, question19, priceInput, requestPrice, pricesInRange, priceQuestions, priceAllowance, priceAnswer, requestPrices, priceArea}
-use Rattle.steps.proofs.TableLaws.{length-list, list-same, place-of-list}
 use Rattle.steps.proofs.QuestionLaws.{never-both, then-assoc, then-first, then-next}
 use Rattle.tables.specs.Vectors.{vector}
 use Rattle.accuracy.proofs.PriceRule.{accurate-prices}
+use Rattle.accuracy.proofs.Same.{same-vector}
+use Rattle.writing.proofs.AcceptedArea.{vector-area}
 use Rattle.answers.specs.declared.Filled.the-variants as told
 use Rattle.price_planner.specs.Promises.{PriceStepped, PricesDone}
-
--- Demand 3 looks only at the prices of the stages below n.
-accurate-same : {n E : ℕ} {on : ℕ → Bool} {A : ℕ → ℕ → Fraction} {c p : ℕ → Float} (q : ℕ → Float)
-    → ((i : ℕ) → i < n → p i ≡ q i) → AccuratePrices n on E A c p → AccuratePrices n on E A c q
-accurate-same {n} {E} {on} {c = c} q e a =
-    record { X = a .X; exact = a .exact; within = λ i l. subst (λ z. Within E z (exactPrice n (extended on (a .X)) c i)) (e i l) (a .within i l) }
 
 module _ (reading n : ℕ) (e : ℤ) (sheet prices before : List Float) where
   refused-with : {number row column : ℕ} → priceQuestions reading n e sheet prices (length before) ≡ refuse number row column
@@ -63,14 +57,13 @@ module _ (reading n : ℕ) (e : ℤ) (sheet prices before : List Float) where
         → PricesDone reading n e sheet prices prices before after (told.Allowed allowed)
     unfolding priceAnswer priceArea priceQuestions requestPrices
     prices-given {after} fit held good written a =
-        let f : ℕ → Float = requestPrice n (entry reading n sheet) (unitPrice prices) in
         let asked : priceQuestions reading n e sheet prices (length before) ≡ pass = rw (input, fine, ← (stepped .range), good) in
-        let same : after ≡ list f n ++ drop n before = written ∙ ap (λ (xs : List Float). xs ++ drop n before) (list-same (vector ps) f n (stepped .price (holds good))) in
+        let placed = vector-area asked n before (requestPrice n (entry reading n sheet) (unitPrice prices)) ps (stepped .price (holds good)) written in
         record {
           kept = refl;
           answered = ap given a ∙ ap (λ q. answer q (priceAllowance reading n)) (sym asked);
-          area = same ∙ ap (λ (k : ℕ). list f n ++ drop k before) (sym (length-list f n)) ∙ ap (λ q. filled q (list f n) before) (sym asked);
+          area = placed .area;
           accurate = λ p.
-              accurate-same (λ i. getD after i nan) (λ i l. sym (ap (λ (xs : List Float). getD xs i nan) same ∙ place-of-list f n (drop n before) i l))
+              same-vector (λ i. getD after i nan) (placed .at)
               (accurate-prices reading n e sheet prices (length before) fit held input fine (holds (sym (stepped .range) ∙ good)));
         }

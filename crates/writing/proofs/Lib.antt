@@ -1,1 +1,2 @@
 mod FilledRows
+pub mod AcceptedArea
