@@ -1,5 +1,5 @@
 -- The accuracy rule of prices: entries near fractions, multiplied by prices and added.
-use Prim.Native.Nat.{ℕ, zero, suc, _+_, _<_}
+use Prim.Native.Nat.{ℕ, zero, suc, _+_, _≤_, _<_}
 use native.Mathlib.Nat.{zero-add}
 use native.Mathlib.Omega.{arith}
 use mathlib.Core.Bool.{Bool, _&&_}
@@ -12,7 +12,7 @@ use lib.ListN.{length, getD}
 use lib.Ieee.{Float, nan, binary64, le, fits}
 use lib.Ieee.Fits.{and-l, and-r}
 use Rattle.definitions.specs.Numbers.{_⊕_, _⊗_, 0·0, finite, isZero, addInRange, mulInRange, sum, sumInRange, all}
-use Rattle.definitions.specs.Fractions.{Fraction, _*ᶠ_, value, total}
+use Rattle.definitions.specs.Fractions.{Fraction, _+ᶠ_, _*ᶠ_, value, total}
 use Rattle.definitions.specs.Matrix.{matrix, everyStage}
 use Rattle.definitions.specs.Sheet.{takesPart, allowance}
 use Rattle.definitions.specs.Table.{entry, everyStepInRange}
@@ -49,17 +49,23 @@ module _ {e : ℕ} {x : Float} {p : Fraction} (a : NearFraction e x p) (c : Floa
         same = λ h. plus-zero-of-sign (x ⊗ c) h (times-zero-of-sign x c (good-finite (a .good)) z) ∙ sym (plus-zero h);
       }
 
+-- One term more is one rounding more.
+next-term : {e d : ℕ} {s t : Float} {p q : Fraction} → e ≤ d → NearFraction d s p → Term e t q → T (addInRange s t) → NearFraction (suc d) (s ⊕ t) (p +ᶠ q)
+unfolding addInRange
+next-term few before term range =
+    let is = term .same (before .good) in
+    rw is (near-plus before (near-more few (term .near)) (rw is at range))
+
 -- Terms within e of fractions: the sum of m + 1 of them has m roundings.
 terms-near :
     (e : ℕ) (f : ℕ → Float) (g : ℕ → Fraction) (m : ℕ) → ((j : ℕ) → j < suc m → Term e (f j) (g j)) → T (sumInRange 0·0 f 0 (suc m))
     → NearFraction (e + m) (sum 0·0 f 0 (suc m)) (total everyStage g (suc m))
-unfolding sum total addInRange
+unfolding sum total
 terms-near e f g zero h t = let first = h 0 (omega arith) in rw (first .same zero-is-good) (near-more (omega arith) (near-first (first .near)))
 terms-near e f g (suc m) h t =
     let before = terms-near e f g m (λ j l. h j (omega arith)) (range-before 0·0 f 0 (suc m) t) in
     let last : Term e (f (0 + suc m)) (g (suc m)) = rw (zero-add (suc m)) (h (suc m) (omega arith)) in
-    let is = last .same (before .good) in
-    rw is (near-more (omega arith) (near-plus before (near-more (omega arith) (last .near)) (rw is at (range-last 0·0 f 0 (suc m) t))))
+    near-more (omega arith) (next-term {e = e} (omega arith) before last (range-last 0·0 f 0 (suc m) t))
 
 -- What passes question 19.
 price-kind : (c : Float) → T (fits binary64 c) → T (goodPrice c) → Good c ⊎ T (isZero c)
