@@ -1,7 +1,7 @@
 /* The steps for leaving rates of document 01, in its order, in plain C: for the whole table, for one column of it,
-   and for prices from it. run.py compiles this file several times: SUFFIX gives each build its own function names, and with
-   CHECKED every range test of document 01 stands at its step. Questions 1 to 9 are not asked. Beside them, without
-   CHECKED, the product of a sheet and a power of two, in two ways.
+   and for prices from it. run.py compiles this file several times: SUFFIX gives each build its own function names,
+   and with CHECKED every range test of document 01 stands at its step. Questions 1 to 9 are not asked. Beside them,
+   without CHECKED, the product of a sheet and a power of two, in two ways.
 
    The working tables have 32 numbers to a row. s stands apart from the sizes t, so the loop over a row may
    run over the diagonal place of t: no step reads that place. */

@@ -52,10 +52,11 @@ pub record AccurateVector (n : ℕ) (on : ℕ → Bool) (E : ℕ) (A : ℕ → �
 abbrev pub AccurateColumn : ℕ → (ℕ → Bool) → ℕ → (ℕ → ℕ → Fraction) → ℕ → (ℕ → Float) → Type 0
 AccurateColumn n on E A j x = AccurateVector n on E A (λ y i. y i j) x
 
--- The exact price of a request that enters at stage i, for the rule's y and prices c (document 02, U7), and the prices p of every stage.
+-- The exact price of a request that enters at stage i, for the rule's y and prices c per unit of time (document 02, U7).
 unfoldable pub exactPrice : ℕ → (ℕ → ℕ → Fraction) → (ℕ → Float) → ℕ → Fraction
 exactPrice n y c i = total everyStage (λ j. y i j *ᶠ value (c j)) n
 
+-- The prices p of every stage.
 abbrev pub AccuratePrices : ℕ → (ℕ → Bool) → ℕ → (ℕ → ℕ → Fraction) → (ℕ → Float) → (ℕ → Float) → Type 0
 AccuratePrices n on E A c p = AccurateVector n on E A (λ y. exactPrice n y c) p
 

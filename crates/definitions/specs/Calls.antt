@@ -1,12 +1,13 @@
--- Calls to try of a service that is lent a sheet and an area: lines with what each call answers and leaves, and one claim about all
--- lines of a list.
-use Prim.Native.Nat.{ℕ}
-use mathlib.Core.List.{List, map}
+-- Calls to try of a service that is lent a sheet and an area: lines with what each call answers and leaves, one claim about all lines
+-- of a list, and sheets, numbers and areas that several lists have.
+use Prim.Native.Nat.{ℕ, _-_, _^_}
+use mathlib.Core.List.{List, [], _∷_, map}
 use mathlib.Core.Path.{_≡_}
 use lib.IntN.{ℤ, pos}
 use lib.ListN.{length}
 use lib.Ieee.{Float}
 use Rattle.definitions.specs.Services.{Answer, given, refused}
+use Rattle.definitions.specs.Starred.{num, minus}
 
 -- What a call answers, with the area after it.
 pub record Outcome (A : Type 0) : Type 0 where
@@ -54,3 +55,26 @@ gives value after = record { answers = given value; area = after }
 
 abbrev pub refuses : {A : Type 0} → ℕ → ℕ → ℕ → List Float → Outcome A
 refuses number row column area = record { answers = refused number row column; area = area }
+
+-- Places before a call.
+abbrev pub one : List Float
+one = num 7 ∷ []
+
+abbrev pub three : List Float
+three = num 7 ∷ num 8 ∷ num 9 ∷ []
+
+-- One stage, with an area of one place.
+abbrev pub single : {B A : Type 0} → ℕ → Float → B → Outcome A → Line B A
+single reading number beside expected = line reading 1 (number ∷ []) beside one expected
+
+-- Sheet P of document 01.
+abbrev pub P : List Float
+P = num 1 ∷ minus (num 1) ∷ minus (num 1) ∷ num 0 ∷ []
+
+-- One column in range, the table not: 1 / 2^1022 is a step of the second column alone.
+abbrev pub edge : List Float
+edge = num 1 ∷ num 0 ∷ num 0 ∷ num (2 ^ 1022) ∷ []
+
+-- The largest finite number.
+abbrev pub most : Float
+most = num (2 ^ 1024 - 2 ^ 971)

@@ -1,11 +1,11 @@
 -- Columns to try (document 02, U2 and U3): calls with what they answer and leave, and one claim about all of them.
-use Prim.Native.Nat.{ℕ, _-_, _^_}
+use Prim.Native.Nat.{ℕ, _^_}
 use mathlib.Core.List.{List, [], _∷_}
 use lib.IntN.{pos, negsuc}
 use lib.Ieee.{Float, nan}
 use Rattle.definitions.specs.Column.{columnAnswer, columnArea}
 use Rattle.definitions.specs.Starred.{num, quo, minus}
-use Rattle.definitions.specs.Calls.{Line, Service, Claim, line, inUnit, gives, refuses}
+use Rattle.definitions.specs.Calls.{Line, Service, Claim, line, inUnit, gives, refuses, one, three, P, edge, most}
 
 -- What stands beside the sheet is the stage.
 abbrev ofColumn : Service ℕ ℕ
@@ -14,25 +14,8 @@ ofColumn = record { answers = λ reading n e sheet stage room. columnAnswer read
 unfoldable pub ColumnClaim : List (Line ℕ ℕ) → Type 0
 ColumnClaim lines = Claim ofColumn lines
 
--- Places before the call.
-abbrev pub three : List Float
-three = num 7 ∷ num 8 ∷ num 9 ∷ []
-
-abbrev pub one : List Float
-one = num 7 ∷ []
-
-abbrev pub P : List Float
-P = num 1 ∷ minus (num 1) ∷ minus (num 1) ∷ num 0 ∷ []
-
--- One column in range, the table not: 1 / 2^1022 is a step of the second column alone.
-abbrev pub edge : List Float
-edge = num 1 ∷ num 0 ∷ num 0 ∷ num (2 ^ 1022) ∷ []
-
 abbrev tiny : Float
 tiny = quo 1 (2 ^ 600)
-
-abbrev pub most : Float
-most = num (2 ^ 1024 - 2 ^ 971)
 
 unfoldable pub columns : List (Line ℕ ℕ)
 columns =

@@ -1,12 +1,11 @@
 -- Sheets to move (document 02, U4 and U5): calls with what they answer and leave, and one claim about all of them.
-use Prim.Native.Nat.{ℕ, _-_, _*_, _^_}
+use Prim.Native.Nat.{_-_, _*_, _^_}
 use mathlib.Core.List.{List, [], _∷_}
 use lib.IntN.{ℤ, pos, negsuc}
 use lib.Ieee.{Float, nan}
 use Rattle.definitions.specs.Moving.{moveAnswer, movedArea}
 use Rattle.definitions.specs.Starred.{num, quo, minus}
-use Rattle.definitions.specs.Calls.{Outcome, Line, Service, Claim, line, inUnit, gives, refuses}
-use Rattle.definitions.specs.ColumnExamples.{one, P, most}
+use Rattle.definitions.specs.Calls.{Line, Service, Claim, line, inUnit, gives, refuses, one, single, P, most}
 
 -- What stands beside the sheet is k.
 abbrev ofMoving : Service ℤ ℤ
@@ -14,10 +13,6 @@ ofMoving = record { answers = moveAnswer; leaves = movedArea }
 
 unfoldable pub MoveClaim : List (Line ℤ ℤ) → Type 0
 MoveClaim lines = Claim ofMoving lines
-
--- One stage, with an area of one place.
-abbrev single : ℕ → Float → ℤ → Outcome ℤ → Line ℤ ℤ
-single reading number k expected = line reading 1 (number ∷ []) k one expected
 
 -- Places before the call.
 abbrev five : List Float

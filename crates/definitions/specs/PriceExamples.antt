@@ -6,8 +6,7 @@ use lib.Ieee.{Float, nan, inf}
 use mathlib.Core.Bool.{false, true}
 use Rattle.definitions.specs.Prices.{priceAnswer, priceArea}
 use Rattle.definitions.specs.Starred.{num, quo, minus, word}
-use Rattle.definitions.specs.Calls.{Outcome, Line, Service, Claim, line, inUnit, gives, refuses}
-use Rattle.definitions.specs.ColumnExamples.{one, three, P, edge, most}
+use Rattle.definitions.specs.Calls.{Outcome, Line, Service, Claim, line, inUnit, gives, refuses, one, three, single, P, edge, most}
 
 -- What stands beside the sheet are the prices.
 abbrev ofPrices : Service (List Float) ℕ
@@ -16,9 +15,9 @@ ofPrices = record { answers = priceAnswer; leaves = priceArea }
 unfoldable pub PriceClaim : List (Line (List Float) ℕ) → Type 0
 PriceClaim lines = Claim ofPrices lines
 
--- One stage and its price, with an area of one place.
-abbrev single : ℕ → Float → Float → Outcome ℕ → Line (List Float) ℕ
-single reading number price expected = line reading 1 (number ∷ []) (price ∷ []) one expected
+-- One stage and its price.
+abbrev priced : ℕ → Float → Float → Outcome ℕ → Line (List Float) ℕ
+priced reading number price expected = single reading number (price ∷ []) expected
 
 -- P, in an area of three places, and four numbers that are none.
 abbrev ofP : Float → Float → Outcome ℕ → Line (List Float) ℕ
@@ -34,14 +33,14 @@ priceLines =
     ∷ line 2 3 (num 1 ∷ num 0 ∷ num 0 ∷ num 0 ∷ num 1 ∷ num 0 ∷ minus (num 1) ∷ minus (num 1) ∷ num 1 ∷ []) (num (2 ^ 53) ∷ num 1 ∷ num 1 ∷ []) three
     (gives 327 (num (2 ^ 53) ∷ num 1 ∷ word 0x4340000000000000 ∷ []))
     -- minus zero is a price, and gives plus zero
-    ∷ single 1 (num 1) (minus (num 0)) (gives 5 (num 0 ∷ []))
+    ∷ priced 1 (num 1) (minus (num 0)) (gives 5 (num 0 ∷ []))
     -- idle stages
     ∷ line 1 2 (num 1 ∷ num 0 ∷ num 0 ∷ num 0 ∷ []) (num 5 ∷ num 3 ∷ []) three (gives 34 (num 5 ∷ num 0 ∷ num 9 ∷ []))
-    ∷ single 1 (num 0) (num 7) (gives 5 (num 0 ∷ []))
+    ∷ priced 1 (num 0) (num 7) (gives 5 (num 0 ∷ []))
     -- a product with a price and a sum of them in range; 10 is asked of every step of the table too
-    ∷ single 1 (num 1) (quo 1 (2 ^ 1021)) (gives 5 (quo 1 (2 ^ 1021) ∷ []))
-    ∷ single 1 (num 1) (quo 1 (2 ^ 1022)) (refuses 10 0 0 one)
-    ∷ single 2 (quo 1 (2 ^ 600)) (num (2 ^ 600)) (refuses 10 0 0 one)
+    ∷ priced 1 (num 1) (quo 1 (2 ^ 1021)) (gives 5 (quo 1 (2 ^ 1021) ∷ []))
+    ∷ priced 1 (num 1) (quo 1 (2 ^ 1022)) (refuses 10 0 0 one)
+    ∷ priced 2 (quo 1 (2 ^ 600)) (num (2 ^ 600)) (refuses 10 0 0 one)
     ∷ ofP most most (refuses 10 0 0 three)
     ∷ line 1 2 edge (num 1 ∷ num 0 ∷ []) three (refuses 10 0 0 three)
     -- 19: one search for all four faults, before 10

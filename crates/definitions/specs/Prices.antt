@@ -64,7 +64,7 @@ priceAllowance reading n = allowance reading n + n
 unfoldable pub priceAnswer : ℕ → ℕ → ℤ → List Float → List Float → ℕ → Answer ℕ
 priceAnswer reading n e sheet prices room = answer (priceQuestions reading n e sheet prices room) (priceAllowance reading n)
 
--- "N numbers of a lent area are filled and later ones keep their contents": the prices from the first stage to the last.
+-- "n numbers of a lent area are filled and later ones keep their contents": the prices from the first stage to the last.
 unfoldable pub requestPrices : ℕ → ℕ → List Float → List Float → List Float
 requestPrices reading n sheet prices = let x = entry reading n sheet in list (requestPrice n x (unitPrice prices)) n
 
