@@ -17,13 +17,13 @@ use Rattle.definitions.specs.LeavingRates.{pivot, pivotInRange, multiplier, p, 
 use Rattle.rounding.proofs.Finite.{sum-finite, product-finite, quotient-finite}
 use Rattle.steps.proofs.All.{each, every}
 use Rattle.steps.proofs.AddProduct.{step-finite}
+use Rattle.steps.proofs.Pivot.{exit-of-pivot, size-of-pivot, finite-in-range, alone-in-range, last-pivot, in-range-finite}
 use Rattle.tables.specs.RowMajor.{IsTable, table, Holds, Gives}
 use Rattle.passes.specs.Told.{Told}
 use Rattle.passes.specs.Multipliers.{systemIn}
 use Rattle.passes.specs.Stages.{rowTest, rowTests, stageDone, stagesDone, stagesInRange}
 use Rattle.passes.specs.StageTests.{RowFinite, StageFinite, pivotTested, stageTested, StageFinds, PairFinds}
 use Rattle.passes.proofs.Told.{ToldEach, told-same, told-begins, told-turns, told-turns-twice, told-ends}
-use Rattle.passes.proofs.FinitePivots.{exit-of-pivot, size-of-pivot, finite-in-range, alone-in-range, last-pivot, in-range-finite}
 use Rattle.passes.proofs.StagePlaces.{exit-place, size-place}
 
 -- ---- one row at stage k, whose pivot is q

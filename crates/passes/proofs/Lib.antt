@@ -1,6 +1,5 @@
 -- What the tests tell; the steps that serve every column; the steps on b, row by row.
 pub mod Told
-mod FinitePivots
 mod StagePlaces
 mod PairRow
 pub mod PairStages

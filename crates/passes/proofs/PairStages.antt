@@ -9,16 +9,15 @@ use mathlib.Core.List.{List}
 use lib.Ieee.{Float}
 use lib.Ieee.Fits.{and-i, and-l}
 use Rattle.exact.proofs.Cases.{by-equal, by-order}
-use Rattle.definitions.specs.Numbers.{sum as total}
 use Rattle.definitions.specs.LeavingRates.{pivot}
 use Rattle.steps.proofs.All.{every}
+use Rattle.steps.proofs.Pivot.{pivot-same, last-pivot}
 use Rattle.tables.specs.RowMajor.{IsTable, table}
 use Rattle.tables.specs.Operators.{replace, between, put}
 use Rattle.tables.proofs.Operators.{replace-same, replace-other, between-in, between-low, between-out, between-none, between-step, replace-own}
 use Rattle.passes.specs.Multipliers.{systemIn}
 use Rattle.passes.specs.Stages.{IsStage, rowTest, rowTests, multiplierRow, multipliedRows, eliminatedRow, eliminatedRows, columnRow, nextBegun, pairRow, pairRows, stageDone}
 use Rattle.passes.specs.StageTests.{Alike, pivotTested, stageTested, StageFinds}
-use Rattle.passes.proofs.FinitePivots.{last-pivot}
 use Rattle.passes.proofs.StagePlaces.{pivot-row, earlier-row-keeps, past-row-keeps, later-row}
 use Rattle.passes.proofs.PairRow.{column-same, atOnce, oneByOne, at-once}
 
@@ -103,11 +102,11 @@ module _ (r k : ℕ) (f : ℕ → ℕ → Float) (l : suc k < r) where
 
   -- So the stage begins as it would after stage k, and its tests look at the same numbers.
   pub next-stage : {s p : Float} → IsStage r (suc k) begun s p → IsStage r (suc k) after s p
-  unfolding pivot
   next-stage h =
+      let place : (j : ℕ) → begun (suc k) j ≡ after (suc k) j = λ j. ap (λ (row : ℕ → Float). row j) next-row in
       record {
-        sum = h .sum ∙ ap (λ (row : ℕ → Float). row (suc k)) next-row;
-        pivots = h .pivots ∙ ap (λ (row : ℕ → Float). total (row (suc k)) row (suc (suc k)) (r - suc (suc k))) next-row;
+        sum = h .sum ∙ place (suc k);
+        pivots = h .pivots ∙ pivot-same r (suc k) (systemIn begun) (systemIn after) (place (suc k)) (λ j a b. place j);
       }
 
   pub alike : Alike r (suc k) begun after

@@ -1,4 +1,4 @@
--- A pivot's laws: its additions are in range where it is finite; and it is good, with a rounding for each addition.
+-- A pivot is good, with a rounding for each addition.
 use Prim.Native.Nat.{ℕ, suc, _+_, _-_}
 use mathlib.Core.Path.{_≡_, ap, _∙_}
 use native.Mathlib.Omega.{arith}
@@ -8,17 +8,13 @@ use Rattle.exact.specs.Near.{Near}
 use Rattle.exact.specs.Systems.{diag}
 use Rattle.exact.specs.Elimination.{pivot}
 use Rattle.exact.proofs.Sums.{first, later}
-use Rattle.definitions.specs.Numbers.{finite, sum, sumInRange, units}
+use Rattle.definitions.specs.Numbers.{sum, sumInRange, units}
 use Rattle.definitions.specs.LeavingRates.{System, pivotInRange, p}
 use Rattle.rounding.specs.Good.{Good}
-use Rattle.rounding.proofs.RoundedSums.{sum-is-good, total-in-range}
+use Rattle.rounding.proofs.RoundedSums.{sum-is-good}
 use Rattle.steps.proofs.LeavingRatesSteps.{pivot-is}
 use Rattle.rates_accuracy.specs.LeavingRatesAccuracy.{inUnits, GoodSystem}
 use Rattle.rates_accuracy.proofs.OperationErrors.{sum-near}
-
-pub finite-in-range : (r : ℕ) (at : ℕ → System) (k : ℕ) → T (finite (p r at k)) → T (pivotInRange r (at k) k)
-unfolding pivotInRange
-finite-in-range r at k t = total-in-range (at k .s k) (at k .t k) (suc k) (r - suc k) (rw (pivot-is r at k) at t)
 
 -- Stage k, with m stages after it.
 module _ (r : ℕ) (at : ℕ → System) (k m : ℕ) (e : suc (k + m) ≡ r) where

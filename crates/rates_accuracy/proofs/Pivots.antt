@@ -14,11 +14,12 @@ use Rattle.definitions.specs.LeavingRates.{System, downward, pivotInRange, p, s
 use Rattle.definitions.specs.Table.{liveCount, liveSystem, liveBegun}
 use Rattle.rounding.specs.Good.{Good}
 use Rattle.rounding.proofs.Laws.{is-zero}
+use Rattle.steps.proofs.Pivot.{finite-in-range}
 use Rattle.rates_accuracy.specs.LeavingRatesAccuracy.{inUnits, GoodSystem, StagesGetOut}
 use Rattle.rates_accuracy.specs.Pivots.{NoPivotIsZeroInSystems, NoPivotIsZero}
 use Rattle.rates_accuracy.proofs.Input.{table-numbers}
 use Rattle.rates_accuracy.proofs.LiveSystem.{live-good, live-out}
-use Rattle.rates_accuracy.proofs.PivotErrors.{finite-in-range, pivot-good, pivot-near}
+use Rattle.rates_accuracy.proofs.PivotErrors.{pivot-good, pivot-near}
 use Rattle.rates_accuracy.proofs.LeavingRatesStages.{stages-good, stages-out}
 use Rattle.rounding.proofs.Finite.{zero-finite}
 
@@ -44,11 +45,12 @@ module _
 
   -- A pivot that is zero would be finite, so that its additions are in range.
   not-zero : T (not (isZero (p r (downward r start) k)))
+  unfolding p
   not-zero = not-T (isZero (p r (downward r start) k)) none
     where
       none : T (isZero (p r (downward r start) k)) → ⊥
       none z =
-          let s = finite-in-range r (downward r start) k (zero-finite (p r (downward r start) k) z) in
+          let s = finite-in-range r (downward r start k) k (zero-finite (p r (downward r start) k) z) in
           T-not (isZero (p r (downward r start) k)) (positive-not-zero (good-pivot s) (positive-pivot s)) z
 
 pub no-pivot-is-zero-in-systems : NoPivotIsZeroInSystems

@@ -12,7 +12,7 @@ use Rattle.exact.proofs.Cases.{by-equal, by-order}
 use Rattle.steps.proofs.All.{all-same}
 use Rattle.steps.proofs.AddProduct.{step-same, step-test-same}
 use Rattle.steps.proofs.TableLaws.{stored-at, storedTable-at}
-use Rattle.steps.proofs.FloatSums.{sum-same, sum-in-range-same}
+use Rattle.steps.proofs.Pivot.{pivot-same, pivot-in-range-same}
 use Rattle.steps.proofs.LeavingRatesSteps.{begun-at, column-start, column-before, column-step, upward-start, upward-step}
 
 -- The rows and columns from k on agree.
@@ -28,20 +28,21 @@ same-same r k a b c x y =
     }
 
 module _ (r k : ℕ) (a b : System) (h : Same r k a b) (hk : k < r) where
-  row-same : (j : ℕ) → suc k ≤ j → j < suc k + (r - suc k) → a .t k j ≡ b .t k j
-  row-same j l m = h .sizes k j (omega arith) hk (omega arith) (omega arith) (λ e. omega arith)
+  exit-same : a .s k ≡ b .s k
+  exit-same = h .exits k (omega arith) hk
 
-  pivot-same : pivot r a k ≡ pivot r b k
-  unfolding pivot
-  pivot-same = sum-same (a .s k) (b .s k) (a .t k) (b .t k) (suc k) (r - suc k) (h .exits k (omega arith) hk) row-same
+  row-same : (j : ℕ) → k < j → j < r → a .t k j ≡ b .t k j
+  row-same j l m = h .sizes k j (omega arith) hk (omega arith) m (λ e. omega arith)
 
-  pivot-in-range-same : pivotInRange r a k ≡ pivotInRange r b k
-  unfolding pivotInRange
-  pivot-in-range-same = sum-in-range-same (a .s k) (b .s k) (a .t k) (b .t k) (suc k) (r - suc k) (h .exits k (omega arith) hk) row-same
+  own-pivot : pivot r a k ≡ pivot r b k
+  own-pivot = pivot-same r k a b exit-same row-same
+
+  own-additions : pivotInRange r a k ≡ pivotInRange r b k
+  own-additions = pivot-in-range-same r k a b exit-same row-same
 
   multiplier-same : (i : ℕ) → k < i → i < r → multiplier r a k i ≡ multiplier r b k i
   unfolding multiplier
-  multiplier-same i l m = ap₂ (λ x y. x ⊘ y) (h .sizes i k (omega arith) m (omega arith) hk (λ e. omega arith)) pivot-same
+  multiplier-same i l m = ap₂ (λ x y. x ⊘ y) (h .sizes i k (omega arith) m (omega arith) hk (λ e. omega arith)) own-pivot
 
   pub eliminate-same : Same r (suc k) (eliminate r a k) (eliminate r b k)
   unfolding eliminate
@@ -66,7 +67,7 @@ begun-same r a b h (suc k) l = eliminate-same r k (begun r a k) (begun r b k) (b
 module _ (r : ℕ) (at bt : ℕ → System) (h : (k : ℕ) → k < r → Same r k (at k) (bt k)) where
   pub p-same : (k : ℕ) → k < r → p r at k ≡ p r bt k
   unfolding p
-  p-same k l = pivot-same r k (at k) (bt k) (h k l) l
+  p-same k l = own-pivot r k (at k) (bt k) (h k l) l
 
   pub m↓-same : (k i : ℕ) → k < i → i < r → m↓ r at k i ≡ m↓ r bt k i
   unfolding m↓
@@ -129,7 +130,7 @@ module _ (r : ℕ) (at bt : ℕ → System) (h : (k : ℕ) → k < r → Same r 
   pub stage-test-same : (k : ℕ) → k < r → stageInRange r at k ≡ stageInRange r bt k
   unfolding stageInRange
   stage-test-same k l =
-      ap₂ (λ x y. x && y) (pivot-in-range-same r k (at k) (bt k) (h k l) l)
+      ap₂ (λ x y. x && y) (own-additions r k (at k) (bt k) (h k l) l)
       (all-same (rowInRange r at k) (rowInRange r bt k) (suc k) (r - suc k) (λ i m n. row-test-same k i m (omega arith)))
 
   pub shared-before-same : (k : ℕ) → k ≤ r → sharedBefore r at k ≡ sharedBefore r bt k
