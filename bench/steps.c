@@ -1,7 +1,8 @@
-/* The steps for leaving rates of document 01, in its order, in plain C: for the whole table, for one column of it,
-   and for prices from it. run.py compiles this file several times: SUFFIX gives each build its own function names,
-   and with CHECKED every range test of document 01 stands at its step. Questions 1 to 9 are not asked. Beside them,
-   without CHECKED, the product of a sheet and a power of two, in two ways.
+/* The steps for leaving rates of document 01, in its order and with the pivots of document 02, U8, in plain C: for
+   the whole table, for one column of it, and for prices from it. run.py compiles this file several times: SUFFIX
+   gives each build its own function names, and with CHECKED every range test of document 01 stands at its step.
+   Questions 1 to 9 are not asked. Beside them, without CHECKED, the product of a sheet and a power of two, in two
+   ways.
 
    The working tables have 32 numbers to a row. s stands apart from the sizes t, so the loop over a row may
    run over the diagonal place of t: no step reads that place. */
@@ -44,6 +45,15 @@ static inline void load_column(size_t n, const double *restrict sheet, size_t co
     }
 }
 
+/* The pivot of stage k: from plus zero the sizes of its row from the last back, and s_k last. */
+static inline double row_pivot(size_t n, size_t k, const double *restrict row, double s)
+{
+    double pivot = 0.0;
+    for (size_t j = n; j-- > k + 1;)
+        pivot += row[j];
+    return pivot + s;
+}
+
 #ifndef CHECKED
 
 /* Adds m times the numbers `from` to the numbers `to`. */
@@ -59,9 +69,7 @@ int JOIN(steps_, SUFFIX)(size_t n, const double *restrict sheet, double *restric
     double t[LIMIT][LIMIT], b[LIMIT][LIMIT], s[LIMIT], p[LIMIT];
     load(n, sheet, t, b, s);
     for (size_t k = 0; k < n; k++) {
-        double pivot = s[k];
-        for (size_t j = k + 1; j < n; j++)
-            pivot += t[k][j];
+        double pivot = row_pivot(n, k, t[k], s[k]);
         p[k] = pivot;
         for (size_t i = k + 1; i < n; i++) {
             double m = t[i][k] / pivot;
@@ -85,9 +93,7 @@ int JOIN(column_, SUFFIX)(size_t n, const double *restrict sheet, size_t column,
     double t[LIMIT][LIMIT], b[LIMIT], s[LIMIT], p[LIMIT];
     load_column(n, sheet, column, t, b, s);
     for (size_t k = 0; k < n; k++) {
-        double pivot = s[k];
-        for (size_t j = k + 1; j < n; j++)
-            pivot += t[k][j];
+        double pivot = row_pivot(n, k, t[k], s[k]);
         p[k] = pivot;
         for (size_t i = k + 1; i < n; i++) {
             double m = t[i][k] / pivot;
@@ -181,9 +187,7 @@ int JOIN(steps_, SUFFIX)(size_t n, const double *restrict sheet, double *restric
     double t[LIMIT][LIMIT], b[LIMIT][LIMIT], s[LIMIT], p[LIMIT], flags[LIMIT] = {0.0}, flag = 0.0;
     load(n, sheet, t, b, s);
     for (size_t k = 0; k < n; k++) {
-        double pivot = s[k];
-        for (size_t j = k + 1; j < n; j++)
-            pivot += t[k][j];
+        double pivot = row_pivot(n, k, t[k], s[k]);
         flag = finite(flag, pivot);
         p[k] = pivot;
         for (size_t i = k + 1; i < n; i++) {
@@ -225,9 +229,7 @@ int JOIN(column_, SUFFIX)(size_t n, const double *restrict sheet, size_t column,
     double t[LIMIT][LIMIT], b[LIMIT], s[LIMIT], p[LIMIT], flags[LIMIT] = {0.0}, flag = 0.0;
     load_column(n, sheet, column, t, b, s);
     for (size_t k = 0; k < n; k++) {
-        double pivot = s[k];
-        for (size_t j = k + 1; j < n; j++)
-            pivot += t[k][j];
+        double pivot = row_pivot(n, k, t[k], s[k]);
         flag = finite(flag, pivot);
         p[k] = pivot;
         for (size_t i = k + 1; i < n; i++) {

@@ -85,6 +85,10 @@ size_t other_column(size_t reading, size_t n, int64_t e, const double *sheet, si
 size_t other_move(size_t reading, size_t n, int64_t e, const double *sheet, size_t sheet_len, int64_t k, double *area,
                   size_t area_len, int64_t *moved_e, size_t *row, size_t *column);
 
+size_t other_prices(size_t reading, size_t n, int64_t e, const double *sheet, size_t sheet_len, const double *prices,
+                    size_t prices_len, double *answer, size_t answer_len, size_t *allowance, size_t *row,
+                    size_t *column);
+
 static size_t other(const struct group *g, size_t at, double *answer)
 {
     size_t allowance, row, column, places = g->n * g->n;
@@ -105,6 +109,13 @@ static size_t other_moved(const struct group *g, size_t at, double *answer)
     int64_t moved_e;
     return other_move(g->reading, g->n, IN_SECONDS, sheet_of(g, at), places, g->asked[at], answer, places, &moved_e,
                       &row, &column);
+}
+
+static size_t other_priced(const struct group *g, size_t at, double *answer)
+{
+    size_t allowance, row, column;
+    return other_prices(g->reading, g->n, IN_SECONDS, sheet_of(g, at), g->n * g->n, &g->prices[at * g->n], g->n, answer,
+                        g->n, &allowance, &row, &column);
 }
 #endif
 
@@ -197,6 +208,9 @@ static const struct candidate candidates[] = {
     {"C -O3, ldexp of each number", moved_by_ldexp, MOVES, 0},
     {"yulanbowls, table alone", proved, PRICES, 0},
     {"yulanbowls, prices", proved_prices, PRICES, 1},
+#ifdef OTHER
+    {"other library, prices", other_priced, PRICES, 1},
+#endif
     {"C -O3, prices", priced_plain_O3, PRICES, 1},
     {"checked C -O3, prices", priced_checked_O3, PRICES, 1},
 };

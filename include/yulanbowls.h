@@ -96,7 +96,8 @@ extern "C" {
  * Every entry in the row or the column of an idle stage is plus zero. `*allowance` is E = 4n^3 (reading 1) or
  * 12n^3 (reading 2): the exact matrix of the stages that are not idle has one inverse, no entry of which is
  * negative, and each of their entries is within a factor (1 + 2^-53)^E of that inverse's, above and below, so it
- * is zero exactly where that is zero. The bits are those of the published steps, each rounded once.
+ * is zero exactly where that is zero. The bits are those of the published steps, each rounded once; a pivot adds a
+ * stage's rates to later stages from the last one back, beginning at plus zero, and its leaving rate at the end.
  */
 size_t yulanbowls_table(size_t reading, size_t n, int64_t e,
                         const double *sheet, size_t sheet_length,

@@ -165,8 +165,8 @@ class Elimination:
 
 
 def pivot(s_k: float, later_sizes: Sequence[float]) -> float:
-    """p_k: start with s_k, add t_kj for j = k+1 to n, rising."""
-    return running_sum(s_k, later_sizes)
+    """p_k: from plus zero, t_kj for j falling from n to k+1, and s_k last (02, U8)."""
+    return add(running_sum(0.0, reversed(later_sizes)), s_k)
 
 
 def eliminate(sizes: Matrix, leaving: Row) -> Elimination:
@@ -1371,13 +1371,20 @@ def test_margins(check: Checks) -> None:
             # by hand: h_2 = 2^53·k_1 + 1 + 1 is 2^53, k_1 and k_2 are 1, p_2 = 2 + 2^53, x_22 = 1 / p_2
             ("products first in h", 2, 4, [2.0 ** -60, 0.0, 0.0, -1.0, -2.0 ** 53, 1.0, -1.0, -1.0,
                                            0.0, 0.0, 1.0, 0.0, 0.0, 0.0, 0.0, 1.0], 2, 2, 0x3c9ffffffffffffe),
-            ("a pivot rises from s_k", 1, 3, [2.0 ** 53, -1.0, -1.0, 0.0, 1.0, 0.0, 0.0, 0.0, 1.0],
-             1, 1, 0x3ca0000000000000),
+            # by hand: p_1 = ((0 + 1) + 1) + 2^53 in each; with 2^53 first, each 1 would be lost
+            ("a pivot adds s_k last", 1, 3, [2.0 ** 53, -1.0, -1.0, 0.0, 1.0, 0.0, 0.0, 0.0, 1.0],
+             1, 1, 0x3c9ffffffffffffe),
+            ("a pivot's sizes fall", 1, 4, [0.0, -2.0 ** 53, -1.0, -1.0, 0.0, 1.0, 0.0, 0.0,
+                                            0.0, 0.0, 1.0, 0.0, 0.0, 0.0, 0.0, 1.0], 1, 1, 0x3c9ffffffffffffe),
+            # k_2 and k_3 are 1, and 2^53 is the leaving rate of stage 1
+            ("margins have the same pivots", 2, 4, [2.0 ** -60, -1.0, -1.0, -2.0 ** 53, 0.0, 2.0 ** -60, 0.0, -1.0,
+                                                    0.0, 0.0, 2.0 ** -60, -1.0, 0.0, 0.0, 0.0, 1.0],
+             1, 1, 0x3c9ffffffffffffe),
             # by hand: upward b_11 is 1, plus 2^-53 of stage 3 (a tie, 1), plus 2^-53 + 2^-60 of stage 2
-            # (1 + 2^-52), over p_1 = 1 + 2^-51; the other order gives 1
+            # (1 + 2^-52), over p_1 = 1 + 2^-52; the other order gives 1 + 2^-52
             ("upward from the last stage", 1, 3, [1.0, -(2.0 ** -53 + 2.0 ** -60), -2.0 ** -53,
-                                                  -(1 + 2.0 ** -51), 0.0, 0.0, -(1 + 2.0 ** -51), 0.0, 0.0],
-             1, 1, 0x3feffffffffffffe)]:
+                                                  -(1 + 2.0 ** -52), 0.0, 0.0, -(1 + 2.0 ** -52), 0.0, 0.0],
+             1, 1, 0x3ff0000000000000)]:
         got = entry(reading, n, check.unit(), sheet, i, j)
         check.true(f"{what}: {got}", isinstance(got, Seconds) and bits_of(got.value) == bits)
 
@@ -1431,9 +1438,11 @@ def literal_steps(n: int, sheet: Sequence[float], columns: Sequence[int], number
     p: dict[int, float] = {}
     for k in places:
         later = [i for i in places if i > k]
-        p[k] = s[k]
-        for j in later:
-            p[k] = p[k] + t[k, j]
+        p[k] = 0.0
+        for j in range(n, k, -1):
+            if j in later:
+                p[k] = p[k] + t[k, j]
+        p[k] = p[k] + s[k]
         for i in later:
             m = t[i, k] / p[k]
             s[i] = s[i] + m * s[k]
@@ -1480,6 +1489,13 @@ def test_column_questions(check: Checks) -> None:
     lost_pivot = [1.0, 0.0, 0.0, 0.0, LARGEST, -LARGEST, 0.0, 0.0, 1.0]
     for stage in (1, 2, 3):
         check.column("a pivot that overflows", 3, lost_pivot, stage, Refused(10))
+    # by hand: 2^970 + (2^970 + 2^919) is exact, and with s_1 rounds to the largest number; from s_1 on it is that
+    # number before 2^970 is added, a tie that overflows.  2^969 + 2^969 makes such a tie, each alone is lost.
+    check.column("a pivot that s_1 first would lose", 3, [LARGEST - 2.0 ** 971, -(2.0 ** 970 + 2.0 ** 919), -2.0 ** 970,
+                                                          0.0, 1.0, 0.0, 0.0, 0.0, 1.0],
+                 3, [2.0 ** -54 * (1 + 2.0 ** -52), 0.0, 1.0])
+    check.column("a pivot that s_1 first would keep", 3, [LARGEST, -2.0 ** 969, -2.0 ** 969,
+                                                          0.0, 1.0, 0.0, 0.0, 0.0, 1.0], 3, Refused(10))
     for stage, expected in ((1, [1.0, 1.0]), (2, [1.0, 2.0])):
         check.column("column of P", 2, P_SHEET, stage, expected)
         check.equal("a larger area", column(1, 2, check.unit(), P_SHEET, stage, 2000), Column(expected, 32))

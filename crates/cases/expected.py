@@ -85,7 +85,10 @@ ORDERS_OF_STEPS: list[Sheet] = [
     (2, 4, [1.0, -2.0 ** 53, -1.0, -1.0, 0.0, 1.0, 0.0, 0.0, 0.0, 0.0, 1.0, 0.0, 0.0, 0.0, 0.0, 1.0]),
     (2, 4, [2.0 ** -60, 0.0, 0.0, -1.0, -2.0 ** 53, 1.0, -1.0, -1.0, 0.0, 0.0, 1.0, 0.0, 0.0, 0.0, 0.0, 1.0]),
     (1, 3, [2.0 ** 53, -1.0, -1.0, 0.0, 1.0, 0.0, 0.0, 0.0, 1.0]),
-    (1, 3, [1.0, -(2.0 ** -53 + 2.0 ** -60), -2.0 ** -53, -(1 + 2.0 ** -51), 0.0, 0.0, -(1 + 2.0 ** -51), 0.0, 0.0])]
+    (1, 4, [0.0, -2.0 ** 53, -1.0, -1.0, 0.0, 1.0, 0.0, 0.0, 0.0, 0.0, 1.0, 0.0, 0.0, 0.0, 0.0, 1.0]),
+    (2, 4, [2.0 ** -60, -1.0, -1.0, -2.0 ** 53, 0.0, 2.0 ** -60, 0.0, -1.0,
+            0.0, 0.0, 2.0 ** -60, -1.0, 0.0, 0.0, 0.0, 1.0]),
+    (1, 3, [1.0, -(2.0 ** -53 + 2.0 ** -60), -2.0 ** -53, -(1 + 2.0 ** -52), 0.0, 0.0, -(1 + 2.0 ** -52), 0.0, 0.0])]
 
 
 def steps_out_of_range() -> list[Sheet]:
@@ -437,9 +440,13 @@ def column_questions() -> Iterator[Case]:
 
 
 def every_column() -> Iterator[Asked]:
-    """Every column of the sheets above that have reading 1, and of one in which only the last division is out."""
+    """Every column of the sheets above that have reading 1, of one in which only the last division is out, and of two
+    whose first pivot is the largest number in one order and overflows in another."""
     for reading, n, sheet in [*DOCUMENT, *ORDER, *ZEROS, *RANGE, *ORDERS_OF_STEPS, *steps_out_of_range(),
-                              (1, 2, [2.0 ** 500, -2.0 ** -600, 0.0, 1.0])]:
+                              (1, 2, [2.0 ** 500, -2.0 ** -600, 0.0, 1.0]),
+                              (1, 3, [LARGEST - 2.0 ** 971, -(2.0 ** 970 + 2.0 ** 919), -2.0 ** 970,
+                                      0.0, 1.0, 0.0, 0.0, 0.0, 1.0]),
+                              (1, 3, [LARGEST, -2.0 ** 969, -2.0 ** 969, 0.0, 1.0, 0.0, 0.0, 0.0, 1.0])]:
         for stage in range(1, n + 1) if reading == 1 else ():
             yield Asked(n, sheet, stage)
 

@@ -20,6 +20,7 @@ use Rattle.definitions.specs.Prices.{unitPrice, question18, goodPrice, q
 use Rattle.definitions.specs.Column.{columnReading, columnShape, columnInput, columnOf, columnInRange, columnQuestions, stageColumn, columnAnswer, columnArea}
 use Rattle.definitions.specs.Dwell.{text, digits, decimal, integer, hexadecimal, refusedLine, secondsLine, entryLine, rowLines, tableLines, tableText, fileText, dwellText}
 use Rattle.definitions.specs.Starred.{outcome, Claim, starred, further}
+use Rattle.definitions.specs.PivotExamples.{firstPivot, PivotClaim, pivots}
 use Rattle.definitions.specs.ExactExamples.{sheetH, sheetD, MatrixOfH, Product, ExactTable, ExactTables, RuleOfD, ExactPrices}
 use Rattle.definitions.specs.FileExamples.{DwellPrintsP, LongestFile, FileClaim, files, SaveClaim, saves}
 use Rattle.definitions.specs.Calls.{outcome as outcome·Call, Claim as Claim·Call}
@@ -28,5 +29,5 @@ use Rattle.definitions.specs.PriceExamples.{PriceClaim, priceLines}
 use Rattle.definitions.specs.MovingExamples.{MoveClaim, moveLines}
 
 unfoldable pub computing : Unit {0}
-unfolding add sub mul div lt le eq neg round ofBits toBits any outWithin finite isZero addInRange mulInRange divInRange addProductInRange sum sumInRange all units list rows stored storedTable pivot pivotInRange multiplier eliminate begun downward p u m↓ m↑ b↓ b↑ solved quotient rowInRange stageInRange sharedBefore shared columnBefore columnUpward column inRange stagesWith rank compact sumWith sumWithInRange hOf kBefore h a kept scaled keptSystem y known joined xAfter ratioInRange scaledInRange backInRange joinInRange everyStep entry marginsInRange size diagonal system idle takesPart allowance liveCount liveSystem liveBegun liveEntry entry·Table everyStepInRange askRow askRows askStages question1 question2 exponentInRange question12 question3 sizeQuestions shapeQuestions question4 question5 question6 rightSign question7 largeEnough question8 moves leaves getsOut notTrapped question9 question10 placeQuestions numberQuestions tableInput tableQuestions entryInput entryQuestions Accepted tableAnswer table tableArea entryAnswer numerator value total rowSum hFrom ratioBefore marginSum exactSize exactDiagonal matrix Inverse little recordLength recordKind payload rest wholeRecord headLength oldHeadLength headReading headStages signed headUnit knownHead goodHead goodRow rowQuestions fileQuestions words rowWords fileWords headOf fileAnswer fileWordArea fileNumbers fileNumberArea fileLength longestFile littleBytes recordBytes complement headBytes wordBytes rowBytes rowsBytes sheetFile saveQuestions saveAnswer savedWords sheetWords savedNumbers text digits decimal integer hexadecimal refusedLine secondsLine entryLine rowLines tableLines tableText fileText dwellText outcome Claim starred further extended exactPrice sheetH sheetD MatrixOfH Product ExactTable ExactTables RuleOfD ExactPrices DwellPrintsP LongestFile FileClaim files SaveClaim saves columnReading columnShape columnInput columnOf columnInRange columnQuestions stageColumn columnAnswer columnArea outcome·Call Claim·Call ColumnClaim columns unitPrice question18 goodPrice question19 priceShape priceInput requestPrice priceInRange pricesInRange priceQuestions priceAllowance priceAnswer requestPrices priceArea PriceClaim priceLines timesPower question15 question17 hasRoom sheetHasRoom question16 moveInput moveQuestions moveAnswer movedSheet movedArea MoveClaim moveLines
+unfolding add sub mul div lt le eq neg round ofBits toBits any outWithin finite isZero addInRange mulInRange divInRange addProductInRange sum sumInRange all units list rows stored storedTable pivot pivotInRange multiplier eliminate begun downward p u m↓ m↑ b↓ b↑ solved quotient rowInRange stageInRange sharedBefore shared columnBefore columnUpward column inRange stagesWith rank compact sumWith sumWithInRange hOf kBefore h a kept scaled keptSystem y known joined xAfter ratioInRange scaledInRange backInRange joinInRange everyStep entry marginsInRange size diagonal system idle takesPart allowance liveCount liveSystem liveBegun liveEntry entry·Table everyStepInRange askRow askRows askStages question1 question2 exponentInRange question12 question3 sizeQuestions shapeQuestions question4 question5 question6 rightSign question7 largeEnough question8 moves leaves getsOut notTrapped question9 question10 placeQuestions numberQuestions tableInput tableQuestions entryInput entryQuestions Accepted tableAnswer table tableArea entryAnswer numerator value total rowSum hFrom ratioBefore marginSum exactSize exactDiagonal matrix Inverse little recordLength recordKind payload rest wholeRecord headLength oldHeadLength headReading headStages signed headUnit knownHead goodHead goodRow rowQuestions fileQuestions words rowWords fileWords headOf fileAnswer fileWordArea fileNumbers fileNumberArea fileLength longestFile littleBytes recordBytes complement headBytes wordBytes rowBytes rowsBytes sheetFile saveQuestions saveAnswer savedWords sheetWords savedNumbers text digits decimal integer hexadecimal refusedLine secondsLine entryLine rowLines tableLines tableText fileText dwellText outcome Claim starred further firstPivot PivotClaim pivots extended exactPrice sheetH sheetD MatrixOfH Product ExactTable ExactTables RuleOfD ExactPrices DwellPrintsP LongestFile FileClaim files SaveClaim saves columnReading columnShape columnInput columnOf columnInRange columnQuestions stageColumn columnAnswer columnArea outcome·Call Claim·Call ColumnClaim columns unitPrice question18 goodPrice question19 priceShape priceInput requestPrice priceInRange pricesInRange priceQuestions priceAllowance priceAnswer requestPrices priceArea PriceClaim priceLines timesPower question15 question17 hasRoom sheetHasRoom question16 moveInput moveQuestions moveAnswer movedSheet movedArea MoveClaim moveLines
 computing = tt

@@ -1,5 +1,6 @@
 pub mod Computing
 pub mod Starred
+pub mod PivotExamples
 pub mod ExactExamples
 pub mod FileExamples
 pub mod ColumnExamples

@@ -4,7 +4,7 @@ use mathlib.Core.List.{List, [], _∷_}
 use lib.IntN.{pos, negsuc}
 use lib.Ieee.{Float, nan}
 use Rattle.definitions.specs.Column.{columnAnswer, columnArea}
-use Rattle.definitions.specs.Starred.{num, quo, minus}
+use Rattle.definitions.specs.Starred.{num, quo, minus, word}
 use Rattle.definitions.specs.Calls.{Line, Service, Claim, line, inUnit, gives, refuses, one, three, P, edge, most}
 
 -- What stands beside the sheet is the stage.
@@ -30,6 +30,9 @@ columns =
     ∷ line 1 3 (num 1 ∷ minus tiny ∷ num 0 ∷ num 0 ∷ num 1 ∷ minus tiny ∷ num 0 ∷ num 0 ∷ num 1 ∷ []) 2 three (gives 108 (tiny ∷ num 1 ∷ num 0 ∷ []))
     -- a pivot that overflows is a step of every column
     ∷ line 1 3 (num 1 ∷ num 0 ∷ num 0 ∷ num 0 ∷ most ∷ minus most ∷ num 0 ∷ num 0 ∷ num 1 ∷ []) 1 three (refuses 10 0 0 three)
+    -- a pivot adds s_k last (document 02, U8): 2^53 + 2, where from s_1 on each 1 would be lost
+    ∷ line 1 3 (num (2 ^ 53) ∷ minus (num 1) ∷ minus (num 1) ∷ num 0 ∷ num 1 ∷ num 0 ∷ num 0 ∷ num 0 ∷ num 1 ∷ []) 1 three
+    (gives 108 (word 0x3c9ffffffffffffe ∷ num 0 ∷ num 0 ∷ []))
     -- idle stages: a column of zeros, with the steps of the others, those that serve every column and no other column's
     ∷ line 1 2 (num 1 ∷ num 0 ∷ num 0 ∷ num 0 ∷ []) 1 three (gives 32 (num 1 ∷ num 0 ∷ num 9 ∷ []))
     ∷ line 1 2 (num 1 ∷ num 0 ∷ num 0 ∷ num 0 ∷ []) 2 three (gives 32 (num 0 ∷ num 0 ∷ num 9 ∷ []))

@@ -1,10 +1,10 @@
--- Steps for leaving rates (document 01, the section of that name; source 000, Proposition 2.4), on r stages in compact order.
+-- Steps for leaving rates (document 01, the section of that name, with the pivots of document 02, U8; source 000, Proposition 2.4), on r stages in compact order.
 -- Stage k of the paper is k - 1 here, so stages run from 0 to r - 1.
 use Prim.Native.Nat.{ℕ, zero, suc, _-_}
 use mathlib.Core.Bool.{Bool, _&&_, _||_, cond}
 use lib.Dec.{leb, eqb}
 use lib.Ieee.{Float}
-use Rattle.definitions.specs.Numbers.{_⊕_, _⊗_, _⊘_, 0·0, 1·0, divInRange, addProductInRange, sum, sumInRange, all}
+use Rattle.definitions.specs.Numbers.{_⊕_, _⊗_, _⊘_, 0·0, 1·0, addInRange, divInRange, addProductInRange, sum, sumInRange, all}
 use Rattle.definitions.specs.Tables.{stored, storedTable}
 
 -- Sizes t_ij and leaving rates s_i.
@@ -12,13 +12,18 @@ pub record System : Type 0 where
   pub t : ℕ → ℕ → Float
   pub s : ℕ → Float
 
--- "Pivot p_k: start with s_k, add t_kj for j = k+1 to n, rising."
+-- A row of r numbers from its last one back.
+abbrev pub falling : ℕ → (ℕ → Float) → ℕ → Float
+falling r row q = row (r - suc q)
+
+-- Document 02, U8: "a pivot adds t_kj for j falling from n to k+1, starting at plus zero, and s_k last."
 unfoldable pub pivot : ℕ → System → ℕ → Float
-pivot r a k = sum (a .s k) (a .t k) (suc k) (r - suc k)
+pivot r a k = sum 0·0 (falling r (a .t k)) 0 (r - suc k) ⊕ a .s k
 
 -- Its additions in range (question 10).
 unfoldable pub pivotInRange : ℕ → System → ℕ → Bool
-pivotInRange r a k = sumInRange (a .s k) (a .t k) (suc k) (r - suc k)
+pivotInRange r a k =
+    sumInRange 0·0 (falling r (a .t k)) 0 (r - suc k) && addInRange (sum 0·0 (falling r (a .t k)) 0 (r - suc k)) (a .s k)
 
 -- "m = t_ik / p_k"
 unfoldable pub multiplier : ℕ → System → ℕ → ℕ → Float

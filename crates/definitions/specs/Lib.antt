@@ -17,6 +17,7 @@ pub mod Saving
 pub mod Moving
 pub mod Dwell
 pub mod Starred
+pub mod PivotExamples
 pub mod ExactExamples
 pub mod FileExamples
 pub mod Calls

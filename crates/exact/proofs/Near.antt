@@ -110,6 +110,11 @@ pub near-zero : {e x y : ℕ} → Near e x y → y ≡ 0 → x ≡ 0
 near-zero {x = zero} h p = refl
 near-zero {x = suc x} {y} h p = let q : 0 < y = near-pos h (omega arith) in omega arith
 
+-- One addition more: s′ is within one rounding of s + x, and s within e of y.
+pub near-addition : (e s s′ x y z : ℕ) → Near 1 s′ (s + x) → Near e s y → y + x ≡ z → Near (suc e) s′ z
+near-addition e s s′ x y z h g p =
+    subst (Near (suc e) s′) p (near-grow {e = 1 + e} (omega arith) (near-trans h (near-add g (near-refl {x = x}))))
+
 -- A sum made term by term from the last on, each addition within one rounding, is within as many roundings as it has terms:
 -- acc j is what stands once the terms from j on are added.
 pub near-sum-down :
@@ -119,9 +124,8 @@ unfolding sum
 near-sum-down acc f k zero h = rw (add-zero k) (near-eq (omega arith))
 near-sum-down acc f k (suc m) h =
     let rest = near-sum-down acc f (suc k) m (λ j l. h j (later l)) in
-    let more = near-add rest (near-refl {x = f k}) in
     let e : acc (suc k + m) ≡ acc (k + suc m) = ap acc (omega arith) in
-    subst (Near (suc m) (acc k)) (omega arith) (near-grow {e = 1 + m} (omega arith) (near-trans (h k first) more))
+    near-addition m (acc (suc k)) (acc k) (f k) (acc (suc k + m) + sum f (suc k) m) (acc (k + suc m) + (f k + sum f (suc k) m)) (h k first) rest (omega arith)
 
 -- A quotient r = t/q and a product s = r·y, each within one rounding, where u is the unit of the numbers: s is within two
 -- of t·y/q. With a sum x′ = x + s and a pivot q within e of p: x′ is within e + 3 of x + t·y/p.

@@ -2,7 +2,7 @@
 use mathlib.Core.Bool.{Bool, true, false}
 use mathlib.Core.Path.{_≡_, refl, sym, ap, subst, _∙_}
 use mathlib.Core.Logic.{_≢_, _⊎_, inl, inr}
-use Prim.Native.Nat.{ℕ, zero, suc, _+_, _*_, _≤_}
+use Prim.Native.Nat.{ℕ, zero, suc, _+_, _-_, _*_, _≤_}
 use native.Mathlib.Nat.{add-zero, zero-add, suc-add, eq-or-lt-of-le}
 use native.Mathlib.Omega.{arith}
 use Rattle.exact.specs.Chains.{In}
@@ -106,6 +106,14 @@ sum-last f k (suc m) =
 
 pub sum-end : (f : ℕ → ℕ) (m : ℕ) → sum f 0 (suc m) ≡ sum f 0 m + f m
 sum-end f m = rw (zero-add m) at (sum-last f 0 m)
+
+-- From the last of r terms back.
+pub sum-falling : (f : ℕ → ℕ) (r m : ℕ) → m ≤ r → sum (λ q. f (r - suc q)) 0 m ≡ sum f (r - m) m
+unfolding sum
+sum-falling f r zero h = refl
+sum-falling f r (suc m) h =
+    let e : suc (r - suc m) ≡ r - m = omega arith in
+    rw (e, sum-end (λ q. f (r - suc q)) m, sum-falling f r m (omega arith)) (omega arith)
 
 pub sum-split : (f : ℕ → ℕ) (k m q : ℕ) → sum f k (m + q) ≡ sum f k m + sum f (k + m) q
 unfolding sum

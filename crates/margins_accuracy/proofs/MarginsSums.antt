@@ -10,7 +10,7 @@ use Rattle.exact.specs.Chains.{In}
 use Rattle.exact.specs.Near.{Near}
 use Rattle.exact.specs.Sums.{sum as total}
 use Rattle.exact.proofs.Sums.{sum-end, sum-scale}
-use Rattle.exact.proofs.Near.{near-refl, near-eq, near-trans, near-grow, near-scale, near-add, near-sum}
+use Rattle.exact.proofs.Near.{near-eq, near-trans, near-grow, near-scale, near-add, near-addition, near-sum}
 use Rattle.definitions.specs.Numbers.{addInRange, sum, sumInRange, units}
 use Rattle.definitions.specs.Margins.{sumWith, sumWithInRange}
 use Rattle.rounding.specs.Good.{Good}
@@ -31,11 +31,6 @@ module _ (start : Float) (f : ℕ → Float) (k : ℕ) (g : Good start) where
       near-trans
       (subst (Near m (units (sum start f k m) * c)) eq (near-scale c (sum-near start f k g m h t)))
       (near-add b (near-sum (λ j. units (f j) * c) w k m n))
-
--- One addition more: s′ is within one rounding of s + x, and s within m of y.
-one-more : (m s s′ x y z : ℕ) → Near 1 s′ (s + x) → Near m s y → y + x ≡ z → Near (suc m) s′ z
-one-more m s s′ x y z h g e =
-    subst (Near (suc m) s′) e (near-grow {e = 1 + m} (omega arith) (near-trans h (near-add g (near-refl {x = x}))))
 
 -- The sum over the stages that pass a test.
 module _ (test : ℕ → Bool) (f : ℕ → Float) where
@@ -77,7 +72,7 @@ module _ (test : ℕ → Bool) (f : ℕ → Float) where
           let whole : total counted 0 n + units (f n) ≡ total counted 0 (suc n) = omega (arith, sum-end counted n) in
           record {
             good = rw next (sum-good (before .good) here last);
-            near = one-more n s s′ (units (f n)) (total counted 0 n) (total counted 0 (suc n)) rounds (before .near) whole;
+            near = near-addition n s s′ (units (f n)) (total counted 0 n) (total counted 0 (suc n)) rounds (before .near) whole;
           }
       go false e before =
           let next = sumWith-pass test f n e in

@@ -1,7 +1,7 @@
 -- Finiteness backwards: finite pivots make every size and leaving rate of every stage finite. So the stages' tests, as the code makes them, are the document's.
 use mathlib.Core.Path.{_≡_, refl, _∙_}
 use Prim.Native.Nat.{ℕ, zero, suc, _+_, _-_, _≤_, _<_}
-use native.Mathlib.Nat.{le-antisymm, le-refl, sub-zero}
+use native.Mathlib.Nat.{le-antisymm, sub-zero}
 use native.Mathlib.Numerals.{add-one}
 use native.Mathlib.Omega.{arith}
 use mathlib.Core.Bool.{Bool, true, _&&_}
@@ -9,20 +9,18 @@ use mathlib.Core.List.{List}
 use lib.Dec.{T}
 use lib.Ieee.{Float}
 use lib.Ieee.Fits.{and-i, and-l, and-r}
-use borrow.Author.Tests.{le-leb, lt-leb}
-use Rattle.exact.proofs.Cases.{by-equal, by-order}
+use Rattle.exact.proofs.Cases.{by-equal}
 use Rattle.exact.proofs.Bools.{same-truth}
 use Rattle.definitions.specs.Numbers.{_⊘_, _⊗_, finite, addProductInRange, divInRange, all}
 use Rattle.definitions.specs.LeavingRates.{pivot, pivotInRange, multiplier, p, m↓, rowInRange, stageInRange}
 use Rattle.rounding.proofs.Finite.{sum-finite, product-finite, quotient-finite}
 use Rattle.steps.proofs.All.{each, every}
-use Rattle.steps.proofs.AddProduct.{step-finite}
-use Rattle.steps.proofs.Pivot.{exit-of-pivot, size-of-pivot, finite-in-range, alone-in-range, last-pivot, in-range-finite}
+use Rattle.steps.proofs.Pivot.{exit-of-pivot, size-of-pivot, finite-in-range, in-range-finite}
 use Rattle.tables.specs.RowMajor.{IsTable, table, Holds, Gives}
 use Rattle.passes.specs.Told.{Told}
 use Rattle.passes.specs.Multipliers.{systemIn}
 use Rattle.passes.specs.Stages.{rowTest, rowTests, stageDone, stagesDone, stagesInRange}
-use Rattle.passes.specs.StageTests.{RowFinite, StageFinite, pivotTested, stageTested, StageFinds, PairFinds}
+use Rattle.passes.specs.StageTests.{RowFinite, StageFinite, stageTested, StageFinds, PairFinds}
 use Rattle.passes.proofs.Told.{ToldEach, told-same, told-begins, told-turns, told-turns-twice, told-ends}
 use Rattle.passes.proofs.StagePlaces.{exit-place, size-place}
 
@@ -71,22 +69,16 @@ module _ (r k : ℕ) (f : ℕ → ℕ → Float) where
       (λ n. row-finite (h i (omega arith) b) (omega arith) j c d)
 
   -- The stage's test by the code and by the document.
-  finite-pivot : 1 < r → T (pivotTested r q) → T (finite q)
-  finite-pivot h t = rw (lt-leb r 1 h) at t
-
-  pivot-of-tested : T (stageTested r k f) → T (pivotTested r q)
+  pivot-of-tested : T (stageTested r k f) → T (finite q)
   unfolding stageTested q
-  pivot-of-tested t = and-l (pivotTested r q) (rowTests r k q f) t
+  pivot-of-tested t = and-l (finite q) (rowTests r k q f) t
 
-  in-range-of-tested : k < r → T (stageTested r k f) → T (stageInRange r (λ _. systemIn f) k)
+  in-range-of-tested : T (stageTested r k f) → T (stageInRange r (λ _. systemIn f) k)
   unfolding stageTested stageInRange rowInRange p m↓ multiplier rowTest q
-  in-range-of-tested l t =
-      let tested = pivotTested r (pivot r (systemIn f) k) in
-      let additions = pivotInRange r (systemIn f) k in
+  in-range-of-tested t =
+      let tested = finite (pivot r (systemIn f) k) in
       let rows = rowTests r k (pivot r (systemIn f) k) f in
-      and-i additions rows
-      (by-order r 1 (λ h. alone-in-range r (systemIn f) k (omega arith)) (λ h. finite-in-range r (systemIn f) k (finite-pivot h (and-l tested rows t))))
-      (and-r tested rows t)
+      and-i (pivotInRange r (systemIn f) k) rows (finite-in-range r (systemIn f) k (and-l tested rows t)) (and-r tested rows t)
 
   rows-of-in-range : T (stageInRange r (λ _. systemIn f) k) → T (rowTests r k q f)
   unfolding stageInRange rowInRange p m↓ multiplier rowTest q
@@ -96,9 +88,9 @@ module _ (r k : ℕ) (f : ℕ → ℕ → Float) where
   unfolding stageInRange
   additions-of-in-range t = and-l (pivotInRange r (systemIn f) k) (all (rowInRange r (λ _. systemIn f) k) (suc k) (r - suc k)) t
 
-  tested-of-in-range : T (pivotTested r q) → T (stageInRange r (λ _. systemIn f) k) → T (stageTested r k f)
+  tested-of-in-range : T (stageInRange r (λ _. systemIn f) k) → T (stageTested r k f)
   unfolding stageTested q
-  tested-of-in-range u t = and-i (pivotTested r q) (rowTests r k q f) u (rows-of-in-range t)
+  tested-of-in-range t = and-i (finite q) (rowTests r k q f) (in-range-finite r (systemIn f) k (additions-of-in-range t)) (rows-of-in-range t)
 
 -- ---- all stages of a table f
 module _ (r : ℕ) (f : ℕ → ℕ → Float) where
@@ -120,47 +112,18 @@ module _ (r : ℕ) (f : ℕ → ℕ → Float) where
   active h zero k e = λ i j a b c d. let z : ⊥ = omega arith in absurd z
   active h (suc d) k e = operands-finite r k (begun k) (h k (omega arith)) (results-finite r k (begun k) (active h d (suc k) (omega arith)))
 
-  stages-finite : ((k : ℕ) → k < r → T (pivotTested r (pivotAt k))) → (k : ℕ) → k < r → StageFinite r k (pivotAt k) (begun k)
-  unfolding stagesDone q
-  stages-finite h k l =
-      by-order r 1
-      (λ u i a b. let z : ⊥ = omega arith in absurd z)
-      (λ u. results-finite r k (begun k) (active (λ k l. finite-pivot r k (begun k) u (h k l)) (r - suc k) (suc k) (omega arith)))
-
-  -- The last pivot is the leaving rate that the stage before made.
-  leaving-rate-finite : (k : ℕ) → suc (suc k) ≡ r → T (inRange k) → T (finite (pivotAt (suc k)))
-  unfolding stagesDone q
-  leaving-rate-finite k e t =
-      let g = begun k in
-      let l : k < suc k = omega arith in
-      let h : suc k < r = omega arith in
-      rw (last-pivot r (systemIn (stageDone r k g)) (suc k) (omega arith), exit-place r k g (suc k) l h)
-      (step-finite (g (suc k) (suc k)) (g (suc k) k ⊘ pivotAt k) (g k k)
-      (exit-of-test r k (suc k) (pivotAt k) (g (suc k)) (g k) (each (λ i. rowTest r k i (pivotAt k) (g i) (g k)) (suc k) (r - suc k) (suc k) (rows-of-in-range r k g t) (le-refl (suc k)) (omega arith))))
-
-  pivot-finite : ((k : ℕ) → k < r → T (inRange k)) → 1 < r → (k : ℕ) → k < r → T (finite (pivotAt k))
-  pivot-finite h u k l =
-      by-order r (suc k)
-      (λ m. last k (omega arith))
-      (λ m. in-range-finite r (systemIn (begun k)) k m (additions-of-in-range r k (begun k) (h k l)))
-    where
-      last : (k : ℕ) → suc k ≡ r → T (finite (pivotAt k))
-      last zero e = let z : ⊥ = omega arith in absurd z
-      last (suc k) e = leaving-rate-finite k e (h k (omega arith))
-
-  pivot-tested : ((k : ℕ) → k < r → T (inRange k)) → (k : ℕ) → k < r → T (pivotTested r (pivotAt k))
-  pivot-tested h k l = by-order r 1 (λ u. rw (le-leb r 1 u) tt) (λ u. rw (lt-leb r 1 u) (pivot-finite h u k l))
+  stages-finite : ((k : ℕ) → k < r → T (finite (pivotAt k))) → (k : ℕ) → k < r → StageFinite r k (pivotAt k) (begun k)
+  unfolding stagesDone
+  stages-finite h k l = results-finite r k (begun k) (active h (r - suc k) (suc k) (omega arith))
 
   tests-agree : all tested 0 r ≡ all inRange 0 r
   unfolding q
   tests-agree =
       same-truth (all tested 0 r) (all inRange 0 r)
-      (λ t. every inRange 0 r (λ k a l. in-range-of-tested r k (begun k) (omega arith) (each tested 0 r k t a l)))
-      (λ t.
-      let h : (k : ℕ) → k < r → T (inRange k) = λ k l. each inRange 0 r k t (omega arith) (omega arith) in
-      every tested 0 r (λ k a l. let m : k < r = omega arith in tested-of-in-range r k (begun k) (pivot-tested h k m) (h k m)))
+      (λ t. every inRange 0 r (λ k a l. in-range-of-tested r k (begun k) (each tested 0 r k t a l)))
+      (λ t. every tested 0 r (λ k a l. tested-of-in-range r k (begun k) (each inRange 0 r k t a l)))
 
-  told-agrees : {ok : Bool} → Told ok (all tested 0 r) ((k : ℕ) → 0 ≤ k → k < r → StageFinite r k (pivotAt k) (begun k)) → (T ok → (k : ℕ) → k < r → T (pivotTested r (pivotAt k))) → ok ≡ stagesInRange r f r
+  told-agrees : {ok : Bool} → Told ok (all tested 0 r) ((k : ℕ) → 0 ≤ k → k < r → StageFinite r k (pivotAt k) (begun k)) → (T ok → (k : ℕ) → k < r → T (finite (pivotAt k))) → ok ≡ stagesInRange r f r
   unfolding stagesInRange q
   told-agrees h g =
       told-same h
@@ -172,7 +135,7 @@ module _ (r : ℕ) (f : ℕ → ℕ → Float) where
 pub record StagesTold (r : ℕ) (f : ℕ → ℕ → Float) (k : ℕ) (ok : Bool) (xs : List Float) : Type 0 where
   pub holds : Holds xs (stagesDone r f k)
   pub told : ToldEach (λ l. stageTested r l (stagesDone r f l)) (λ l. StageFinite r l (pivot r (systemIn (stagesDone r f l)) l) (stagesDone r f l)) 0 k ok
-  pub tested : T ok → (l : ℕ) → l < k → T (pivotTested r (pivot r (systemIn (stagesDone r f l)) l))
+  pub tested : T ok → (l : ℕ) → l < k → T (finite (pivot r (systemIn (stagesDone r f l)) l))
 
 pub stages-begin : (r : ℕ) {xs : List Float} → IsTable xs → StagesTold r (table xs) 0 true xs
 unfolding stagesDone

@@ -9,15 +9,16 @@ use mathlib.Core.List.{List}
 use lib.Ieee.{Float}
 use lib.Ieee.Fits.{and-i, and-l}
 use Rattle.exact.proofs.Cases.{by-equal, by-order}
+use Rattle.definitions.specs.Numbers.{finite}
 use Rattle.definitions.specs.LeavingRates.{pivot}
 use Rattle.steps.proofs.All.{every}
-use Rattle.steps.proofs.Pivot.{pivot-same, last-pivot}
-use Rattle.tables.specs.RowMajor.{IsTable, table}
+use Rattle.steps.proofs.Pivot.{pivot-same}
+use Rattle.tables.specs.RowMajor.{Holds}
 use Rattle.tables.specs.Operators.{replace, between, put}
-use Rattle.tables.proofs.Operators.{replace-same, replace-other, between-in, between-low, between-out, between-none, between-step, replace-own}
+use Rattle.tables.proofs.Operators.{replace-same, replace-other, between-in, between-low, between-out, between-none, between-step}
 use Rattle.passes.specs.Multipliers.{systemIn}
 use Rattle.passes.specs.Stages.{IsStage, rowTest, rowTests, multiplierRow, multipliedRows, eliminatedRow, eliminatedRows, columnRow, nextBegun, pairRow, pairRows, stageDone}
-use Rattle.passes.specs.StageTests.{Alike, pivotTested, stageTested, StageFinds}
+use Rattle.passes.specs.StageTests.{Alike, stageTested, StageFinds}
 use Rattle.passes.proofs.StagePlaces.{pivot-row, earlier-row-keeps, past-row-keeps, later-row}
 use Rattle.passes.proofs.PairRow.{column-same, atOnce, oneByOne, at-once}
 
@@ -196,31 +197,26 @@ next-done r k f e =
     ∙ between-step (suc k) (suc k) row g (le-refl (suc k))
     ∙ ap (λ (hi : ℕ). between (suc k) hi row g) (add-one (suc k) ∙ e))
 
--- The last stage: its pivot is its running sum, and the table stays as it is.
-last-is : (r k : ℕ) (f : ℕ → ℕ → Float) → suc k ≡ r → pivot r (systemIn f) k ≡ f k k
-last-is r k f e = last-pivot r (systemIn f) k (omega arith)
-
-last-done : (r k : ℕ) (f : ℕ → ℕ → Float) → suc k ≡ r → stageDone r k f ≡ f
-unfolding stageDone eliminatedRows multipliedRows put
+-- The last stage has no rows: it leaves its pivot, and the pivot's test is all of its test.
+last-done : (r k : ℕ) (f : ℕ → ℕ → Float) → suc k ≡ r → stageDone r k f ≡ put k k (pivot r (systemIn f) k) f
+unfolding stageDone eliminatedRows multipliedRows
 last-done r k f e =
     let p = pivot r (systemIn f) k in
-    rw
-    (between-none (suc k) r (multiplierRow k p f) f (omega arith), between-none (suc k) r (eliminatedRow r k (f k k) f) f (omega arith), last-is r k f e, replace-own k (f k))
-    (replace-own k f)
+    rw (between-none (suc k) r (multiplierRow k p f) f (omega arith), between-none (suc k) r (eliminatedRow r k (f k k) f) f (omega arith))
 
--- So the pivot's test is all of its test.
-pub last-stage : (r k : ℕ) {p : Float} {ok : Bool} {xs : List Float} → suc k ≡ r → IsTable xs → p ≡ table xs k k → ok ≡ pivotTested r p → StageFinds r k (table xs) ok xs
+pub last-stage :
+    (r k : ℕ) (f : ℕ → ℕ → Float) {s p : Float} {ok : Bool} {xs : List Float}
+    → suc k ≡ r → IsStage r k f s p → Holds xs (put k k p f) → ok ≡ finite p → StageFinds r k f ok xs
 unfolding stageTested
-last-stage r k {p} {ok} {xs} e long a t =
-    let f = table xs in
+last-stage r k f {ok = ok} e h w t =
     let q = pivot r (systemIn f) k in
-    let same : ok ≡ pivotTested r q = t ∙ rw (a, last-is r k f e) in
+    let same : ok ≡ finite q = t ∙ ap finite (h .pivots) in
     record {
       told =
           record {
-            passes = λ u. rw same (and-l (pivotTested r q) (rowTests r k q f) u);
-            tells = λ g u. and-i (pivotTested r q) (rowTests r k q f) (rw same at u) (every (λ i. rowTest r k i q (f i) (f k)) (suc k) (r - suc k) (λ i m n. let z : ⊥ = omega arith in absurd z));
+            passes = λ u. rw same (and-l (finite q) (rowTests r k q f) u);
+            tells = λ g u. and-i (finite q) (rowTests r k q f) (rw same at u) (every (λ i. rowTest r k i q (f i) (f k)) (suc k) (r - suc k) (λ i m n. let z : ⊥ = omega arith in absurd z));
           };
       tested = λ u. rw same at u;
-      holds = record { long = long; is = sym (last-done r k f e) };
+      holds = record { long = w .long; is = w .is ∙ ap (λ x. put k k x f) (h .pivots) ∙ sym (last-done r k f e) };
     }

@@ -1,9 +1,9 @@
 -- What the tests of a stage tell: they look at the pivot, and at the products of its rows.
 use Prim.Native.Nat.{ℕ, suc, _<_}
-use mathlib.Core.Bool.{Bool, _&&_, _||_}
+use mathlib.Core.Bool.{Bool, _&&_}
 use mathlib.Core.List.{List}
 use mathlib.Core.Path.{_≡_}
-use lib.Dec.{T, leb}
+use lib.Dec.{T}
 use lib.Ieee.{Float}
 use Rattle.definitions.specs.Numbers.{_⊕_, _⊗_, _⊘_, finite}
 use Rattle.definitions.specs.LeavingRates.{pivot}
@@ -32,25 +32,21 @@ pub record Alike (r k : ℕ) (f g : ℕ → ℕ → Float) : Type 0 where
 abbrev pub RowsTold : ℕ → ℕ → Float → (ℕ → ℕ → Float) → Bool → Type 0
 RowsTold r k p f ok = (g : ℕ → ℕ → Float) → Alike r k f g → Told ok (rowTests r k p g) (StageFinite r k p g)
 
--- A pivot's test: finite, where any stage follows or went before.
-abbrev pub pivotTested : ℕ → Float → Bool
-pivotTested r p = leb r 1 || finite p
-
 -- A stage's test as the code makes it.
 unfoldable pub stageTested : ℕ → ℕ → (ℕ → ℕ → Float) → Bool
-stageTested r k f = let p = pivot r (systemIn f) k in pivotTested r p && rowTests r k p f
+stageTested r k f = let p = pivot r (systemIn f) k in finite p && rowTests r k p f
 
 -- A function that does stage k up to its multipliers, and tells of its tests. The pivot's part is made as it stands, so ok alone gives it.
 pub record StageBegins (r k : ℕ) (f : ℕ → ℕ → Float) (s p : Float) (ok : Bool) (xs : List Float) : Type 0 where
   pub stage : IsStage r k f s p
-  pub told : (g : ℕ → ℕ → Float) → Alike r k f g → Told ok (pivotTested r p && rowTests r k p g) (StageFinite r k p g)
-  pub tested : T ok → T (pivotTested r p)
+  pub told : (g : ℕ → ℕ → Float) → Alike r k f g → Told ok (finite p && rowTests r k p g) (StageFinite r k p g)
+  pub tested : T ok → T (finite p)
   pub holds : Holds xs (multipliedRows k p r f)
 
 -- A function that does stage k, and tells so of its test.
 pub record StageFinds (r k : ℕ) (f : ℕ → ℕ → Float) (ok : Bool) (xs : List Float) : Type 0 where
   pub told : Told ok (stageTested r k f) (StageFinite r k (pivot r (systemIn f) k) f)
-  pub tested : T ok → T (pivotTested r (pivot r (systemIn f) k))
+  pub tested : T ok → T (finite (pivot r (systemIn f) k))
   pub holds : Holds xs (stageDone r k f)
 
 -- A function that does stages k and k + 1, and tells so of both tests.
@@ -58,5 +54,5 @@ pub record PairFinds (r k : ℕ) (f : ℕ → ℕ → Float) (ok : Bool) (xs : L
   pub told : Told ok
       (stageTested r k f && stageTested r (suc k) (stageDone r k f))
       (StageFinite r k (pivot r (systemIn f) k) f × StageFinite r (suc k) (pivot r (systemIn (stageDone r k f)) (suc k)) (stageDone r k f))
-  pub tested : T ok → T (pivotTested r (pivot r (systemIn f) k)) × T (pivotTested r (pivot r (systemIn (stageDone r k f)) (suc k)))
+  pub tested : T ok → T (finite (pivot r (systemIn f) k)) × T (finite (pivot r (systemIn (stageDone r k f)) (suc k)))
   pub holds : Holds xs (stageDone r (suc k) (stageDone r k f))

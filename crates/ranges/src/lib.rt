@@ -11,7 +11,7 @@ ghost use Rattle.definitions.specs.Numbers.{_⊗_, _⊘_, smallest, all};
 ghost use Rattle.tables.specs.RowMajor.{IsTable, table};
 ghost use Rattle.tables.specs.Rows.{timesInRange};
 ghost use Rattle.bounds.specs.Bounds.{Covering};
-ghost use Rattle.passes.specs.StageTests.{RowTold, pivotTested};
+ghost use Rattle.passes.specs.StageTests.{RowTold};
 ghost use Rattle.ranges.specs.Quick.{QuickMultiplier, QuickRow};
 
 // Whether m times the bound lo is above 2^-1022.
@@ -26,16 +26,6 @@ fn quick(m: f64, lo: f64) -> bool
     ensures { λ ok. ⌜ QuickMultiplier m lo ok ⌝ }
 {
     (m == 0.0) | above(m, lo)
-}
-
-// A pivot is finite. With one stage alone no step made it.
-pub fn pivot_told(r: usize, p: f64) -> bool
-    ensures { λ ok. ⌜ ok ≡ pivotTested r p ⌝ }
-{
-    if r <= 1 {
-        return true;
-    }
-    rounding::is_finite(p)
 }
 
 // The products of m with the numbers of row k, one by one, in the columns from lo up to hi.

@@ -151,7 +151,7 @@ module _ (r : ℕ) (at : ℕ → System) (j : ℕ) where
         let last : running k (suc k + m) ≡ b↓ r at j k k = ap (running k) (omega arith) ∙ running-start k (omega arith) in
         rw (running-solved k, last) at near
 
-    -- Row k of the exact quotients: each product has two roundings more, and the pivot as many as it has additions.
+    -- Row k of the exact quotients: each product has two roundings more, and the pivot as many as there are stages after it.
     term-over : (k l : ℕ) → k < l → l < r → Near 2 (units (term k l) * denominator r at) (units (at k .t k l) * answer l)
     unfolding answer
     term-over k l h n =

@@ -34,7 +34,7 @@ pub record Computed (E : ℕ) (x : Float) (y c : ℕ) : Type 0 where
   pub good : Good x
   pub near : Near E (units x * c) (y * one·units)
 
--- Roundings of a stage that begins with m stages: its pivot has m - 1 additions, then a division, a product and a sum; and of
+-- Roundings of a stage that begins with m stages: its pivot has m - 1, then a division, a product and a sum; and of
 -- its row on the way up: a division, a product, m - 1 additions and the pivot's again, none where m is 1.
 unfoldable pub stageRoundings : ℕ → ℕ
 stageRoundings = levelCount 2

@@ -12,18 +12,18 @@ pub struct Stage {
     pub p: f64,
 }
 
-// Stage k's running sum and pivot: s_k, and s_k with the sizes after the diagonal added, rising.
+// Stage k's running sum and pivot: s_k, and the sizes from the last column back to the diagonal with s_k added last.
 pub fn begin(r: usize, k: usize, t: &[f64; 1024]) -> Stage
     requires { ⌜ (k < r) × (r ≤ 32) × IsTable (now t) ⌝ }
     ensures { λ stage. ⌜ IsStage r k (table (now (t .entry))) (stage .s) (stage .p) ⌝ }
 {
-    let s = row::get(k, k, t);
-    let mut p = s;
-    for j in k + 1..r {
-        let x = row::get(k, j, t);
+    let mut p = 0.0;
+    for q in 0..r - (k + 1) {
+        let x = row::get(k, r - (q + 1), t);
         p = p + x;
     }
-    Stage { s, p }
+    let s = row::get(k, k, t);
+    Stage { s, p: p + s }
 }
 
 // Row i at stage k, whose multiplier stands in column k. The loop over the row runs over the diagonal

@@ -9,7 +9,7 @@ use mathlib.Core.List.{List}
 use lib.Dec.{T}
 use lib.Ieee.{Float}
 use lib.Ieee.Fits.{and-l, and-r}
-use Rattle.definitions.specs.Numbers.{_⊘_}
+use Rattle.definitions.specs.Numbers.{_⊘_, finite}
 use Rattle.definitions.specs.LeavingRates.{pivot}
 use Rattle.tables.specs.RowMajor.{table, Holds}
 use Rattle.tables.specs.Operators.{put}
@@ -17,7 +17,7 @@ use Rattle.tables.proofs.Loops.{Down, down-due, down-else, down-puts}
 use Rattle.passes.specs.Told.{Told}
 use Rattle.passes.specs.Multipliers.{systemIn}
 use Rattle.passes.specs.Stages.{IsStage, rowTest, multiplierRow, multipliedRows, nextBegun, pairRows, stageDone}
-use Rattle.passes.specs.StageTests.{RowFinite, RowTold, Alike, RowsTold, pivotTested, stageTested, StageFinite, StageBegins, StageFinds, PairFinds}
+use Rattle.passes.specs.StageTests.{RowFinite, RowTold, Alike, RowsTold, stageTested, StageFinite, StageBegins, StageFinds, PairFinds}
 use Rattle.passes.proofs.Told.{told-from, told-both, told-exactly}
 use Rattle.passes.proofs.PairStages.{next-stage, alike, pair-done, next-done}
 
@@ -34,7 +34,7 @@ module _ {k : ℕ} {f : ℕ → ℕ → Float} {xs : List Float} {i : ℕ} (p : 
 -- A stage up to its multipliers.
 pub stage-begins : (r k : ℕ) (f : ℕ → ℕ → Float) {s p : Float} {pivots rows : Bool} {xs : List Float}
     → IsStage r k f s p
-    → pivots ≡ pivotTested r p
+    → pivots ≡ finite p
     → RowsTold r k p f rows
     → Holds xs (multipliedRows k p r f)
     → StageBegins r k f s p (pivots && rows) xs
@@ -55,7 +55,7 @@ module _ {r k : ℕ} {f : ℕ → ℕ → Float} {s p : Float} {ok : Bool} {xs :
   own-told : Told ok (stageTested r k f) (StageFinite r k (pivot r (systemIn f) k) f)
   own-told = stage-told f (h .stage .pivots) (record { row = refl; column = λ i a b. refl })
 
-  stage-tested : {q : Float} → p ≡ q → T ok → T (pivotTested r q)
+  stage-tested : {q : Float} → p ≡ q → T ok → T (finite q)
   stage-tested e t = rw e at (h .tested t)
 
 -- Stage k up to its multipliers, and what stage k + 1 needs of it.
@@ -85,10 +85,10 @@ module _ (r k : ℕ) (f : ℕ → ℕ → Float) {s p : Float} {first : Bool} {x
       }
 
   -- Or, where no rows are left, the pivot, and the last stage.
-  pub pair-last : {second : Bool} {zs : List Float} → suc (suc k) ≡ r → Holds zs (put k k p (table ys)) → StageFinds r (k + 1) (table zs) second zs → PairFinds r k f (first && second) zs
-  pair-last {second} {zs} e h b =
+  pub pair-last : {second : Bool} {zs us : List Float} → suc (suc k) ≡ r → Holds zs (put k k p (table ys)) → StageFinds r (k + 1) (table zs) second us → PairFinds r k f (first && second) us
+  pair-last {second} {zs} {us} e h b =
       let done : table zs ≡ stageDone r k f = h .is ∙ rw (begun, a .stage .pivots) (next-done r k f e) in
-      let c : StageFinds r (suc k) (stageDone r k f) second zs = rw (add-one k, done) at b in
+      let c : StageFinds r (suc k) (stageDone r k f) second us = rw (add-one k, done) at b in
       record {
         told = told-both (own-told a) (c .told);
         tested = λ u. (stage-tested a (a .stage .pivots) (and-l first second u), c .tested (and-r first second u));

@@ -38,7 +38,7 @@ fn begin(r: usize, k: usize, t: &mut [f64; 1024]) -> Begun
     ensures { λ b. ⌜ StageBegins r k (table (now (t .entry))) (b .stage .s) (b .stage .p) (b .ok) (now (t .exit)) ⌝ }
 {
     let stage = schur::begin(r, k, t);
-    let pivot = ranges::pivot_told(r, stage.p);
+    let pivot = rounding::is_finite(stage.p);
     let lo = bounds::least(1.0, k, k, r, t);
     let rows = multipliers(r, k, stage, lo, t);
     Begun {
@@ -68,12 +68,12 @@ pub fn eliminate_pair(r: usize, k: usize, t: &mut [f64; 1024]) -> bool
     first.ok & second.ok
 }
 
-// The last stage: whether its pivot is finite. It has no rows, and its pivot is its running sum, so the table
-// stays as it is.
-pub fn last(r: usize, k: usize, t: &[f64; 1024]) -> bool
+// The last stage, which has no rows: its pivot in its place, and whether that is finite.
+pub fn last(r: usize, k: usize, t: &mut [f64; 1024]) -> bool
     requires { ⌜ (suc k ≡ r) × (r ≤ 32) × IsTable (now t) ⌝ }
-    ensures { λ ok. ⌜ StageFinds r k (table (now (t .entry))) ok (now (t .entry)) ⌝ }
+    ensures { λ ok. ⌜ StageFinds r k (table (now (t .entry))) ok (now (t .exit)) ⌝ }
 {
-    let p = row::get(k, k, t);
-    ranges::pivot_told(r, p)
+    let stage = schur::begin(r, k, t);
+    row::put(k, k, stage.p, t);
+    rounding::is_finite(stage.p)
 }

@@ -21,10 +21,6 @@ module _ (x m y : Float) where
   unfolding addProductInRange
   addition-of-step t = and-r (mulInRange m y) (addInRange x (m ⊗ y)) t
 
-  pub step-finite : T (addProductInRange x m y) → T (finite (x ⊕ m ⊗ y))
-  unfolding addInRange
-  step-finite t = addition-of-step t
-
   pub step-of-product : T (mulInRange m y) → T (finite (x ⊕ m ⊗ y)) → T (addProductInRange x m y)
   unfolding addProductInRange addInRange
   step-of-product t u = and-i (mulInRange m y) (finite (x ⊕ m ⊗ y)) t u

@@ -1,46 +1,60 @@
--- A pivot's laws, by which everything else speaks of it: it looks at its own row alone; where it is finite, its parts are finite and its additions in range.
-use mathlib.Core.Path.{_≡_}
-use Prim.Native.Nat.{ℕ, suc, _-_, _≤_, _<_}
+-- A pivot's laws, by which everything else speaks of it: it looks at its own row alone; it is finite where its additions are in range, and then its parts are finite.
+use mathlib.Core.Path.{_≡_, refl, ap₂}
+use Prim.Native.Nat.{ℕ, suc, _+_, _-_, _≤_, _<_, zero-le}
 use native.Mathlib.Omega.{arith}
+use mathlib.Core.Bool.{Bool, _&&_}
 use lib.Dec.{T}
-use Rattle.definitions.specs.Numbers.{finite, addInRange, sum, sumInRange}
-use Rattle.definitions.specs.LeavingRates.{System, pivot, pivotInRange}
-use Rattle.rounding.proofs.RoundedSums.{total-in-range, range-last, start-finite, term-finite}
+use lib.Ieee.{Float}
+use lib.Ieee.Fits.{and-i, and-r}
+use Rattle.definitions.specs.Numbers.{_⊕_, 0·0, finite, addInRange, sum, sumInRange}
+use Rattle.definitions.specs.LeavingRates.{System, falling, pivot, pivotInRange}
+use Rattle.rounding.proofs.Finite.{sum-finite}
+use Rattle.rounding.proofs.RoundedSums.{total-in-range, term-finite}
 use Rattle.steps.proofs.FloatSums.{sum-same, sum-in-range-same}
 
 module _ (r k : ℕ) (a b : System) (exits : a .s k ≡ b .s k) (sizes : (j : ℕ) → k < j → j < r → a .t k j ≡ b .t k j) where
+  falling-same : (q : ℕ) → 0 ≤ q → q < 0 + (r - suc k) → a .t k (r - suc q) ≡ b .t k (r - suc q)
+  falling-same q l m = sizes (r - suc q) (omega arith) (omega arith)
+
+  sizes-same : sum 0·0 (falling r (a .t k)) 0 (r - suc k) ≡ sum 0·0 (falling r (b .t k)) 0 (r - suc k)
+  sizes-same = sum-same 0·0 0·0 (falling r (a .t k)) (falling r (b .t k)) 0 (r - suc k) refl falling-same
+
   pub pivot-same : pivot r a k ≡ pivot r b k
   unfolding pivot
-  pivot-same = sum-same (a .s k) (b .s k) (a .t k) (b .t k) (suc k) (r - suc k) exits (λ j l m. sizes j l (omega arith))
+  pivot-same = ap₂ (λ x y. x ⊕ y) sizes-same exits
 
   pub pivot-in-range-same : pivotInRange r a k ≡ pivotInRange r b k
   unfolding pivotInRange
-  pivot-in-range-same = sum-in-range-same (a .s k) (b .s k) (a .t k) (b .t k) (suc k) (r - suc k) exits (λ j l m. sizes j l (omega arith))
+  pivot-in-range-same =
+      ap₂ (λ x y. x && y)
+      (sum-in-range-same 0·0 0·0 (falling r (a .t k)) (falling r (b .t k)) 0 (r - suc k) refl falling-same)
+      (ap₂ addInRange sizes-same exits)
 
 module _ (r : ℕ) (a : System) (k : ℕ) where
+  -- The sum of the sizes, and its additions in range.
+  abbrev sizes : Float
+  sizes = sum 0·0 (falling r (a .t k)) 0 (r - suc k)
+
+  abbrev sizesInRange : Bool
+  sizesInRange = sumInRange 0·0 (falling r (a .t k)) 0 (r - suc k)
+
   pub exit-of-pivot : T (finite (pivot r a k)) → T (finite (a .s k))
   unfolding pivot
-  exit-of-pivot t = start-finite (a .s k) (a .t k) (suc k) (r - suc k) t
+  exit-of-pivot t = sum-finite sizes (a .s k) t .1
+
+  sizes-of-pivot : T (finite (pivot r a k)) → T (finite sizes)
+  unfolding pivot
+  sizes-of-pivot t = sum-finite sizes (a .s k) t .0
 
   pub size-of-pivot : T (finite (pivot r a k)) → (j : ℕ) → k < j → j < r → T (finite (a .t k j))
-  unfolding pivot
-  size-of-pivot t j l m = term-finite (a .s k) (a .t k) (suc k) (r - suc k) j t l (omega arith)
+  size-of-pivot t j l m =
+      let back : r - suc (r - suc j) ≡ j = omega arith in
+      rw back at (term-finite 0·0 (falling r (a .t k)) 0 (r - suc k) (r - suc j) (sizes-of-pivot t) zero-le (omega arith))
 
   pub finite-in-range : T (finite (pivot r a k)) → T (pivotInRange r a k)
-  unfolding pivot pivotInRange
-  finite-in-range t = total-in-range (a .s k) (a .t k) (suc k) (r - suc k) t
+  unfolding pivot pivotInRange addInRange
+  finite-in-range t = and-i sizesInRange (finite (sizes ⊕ a .s k)) (total-in-range 0·0 (falling r (a .t k)) 0 (r - suc k) (sizes-of-pivot t)) t
 
-  pub in-range-finite : suc k < r → T (pivotInRange r a k) → T (finite (pivot r a k))
-  unfolding pivot pivotInRange sum addInRange
-  in-range-finite h t =
-      let e : r - suc k ≡ suc (r - suc (suc k)) = omega arith in
-      rw e (range-last (a .s k) (a .t k) (suc k) (r - suc (suc k)) (rw e at t))
-
-  -- With no stage after it nothing is added.
-  pub alone-in-range : r ≤ suc k → T (pivotInRange r a k)
-  unfolding pivotInRange sumInRange
-  alone-in-range l = let e : r - suc k ≡ 0 = omega arith in rw e tt
-
-  pub last-pivot : r ≤ suc k → pivot r a k ≡ a .s k
-  unfolding pivot sum
-  last-pivot l = let e : r - suc k ≡ 0 = omega arith in rw e
+  pub in-range-finite : T (pivotInRange r a k) → T (finite (pivot r a k))
+  unfolding pivot pivotInRange addInRange
+  in-range-finite t = and-r sizesInRange (finite (sizes ⊕ a .s k)) t

@@ -1,29 +1,44 @@
--- `schur::begin` meets its contract: at column j the sizes before it are added. Assumes nothing.
-use Prim.Native.Nat.{_≤_, _-_, suc}
-use native.Mathlib.Numerals.{add-one}
+-- `schur::begin` meets its contract: at turn q the last q sizes are added. Assumes nothing.
+use Prim.Native.Nat.{suc, _+_, _-_, _≤_}
+use mathlib.Core.Path.{_≡_, refl, ap, ap₂, _∙_}
+use native.Mathlib.Nat.{sub-zero}
 use native.Mathlib.Omega.{arith}
+use lib.Ieee.{ofBits}
 use borrow.Author.Needs.{needs}
-use Rattle.definitions.specs.LeavingRates.{pivot}
+use Rattle.definitions.specs.Numbers.{_⊕_, 0·0}
+use Rattle.definitions.specs.LeavingRates.{falling, pivot}
 use Rattle.tables.specs.RowMajor.{table}
 use Rattle.steps.proofs.Gathering.{Summed, summed-begins, summed-turns, summed-ends}
 use Rattle.schur.proofs.begin.Statement.{statement}
 use Rattle.schur.proofs.begin.Tie as tie
 
 abbrev Inv-loop : tie.InvT-loop
-Inv-loop r k t s p₀ j₀ p j = (j ≤ r) × Summed (table t k k) (table t k) (suc k) j p
+Inv-loop r k t p₀ q₀ end p q = (end ≡ r - suc k) × (q ≤ end) × Summed 0·0 (falling r (table t k)) 0 q p
 
 abbrev μ-loop : tie.MeasureT-loop
-μ-loop r k t s p₀ j₀ p j = r - j
+μ-loop r k t p₀ q₀ end p q = end - q
 
 loop-holds : tie.Need-loop-holds Inv-loop μ-loop
-loop-holds c = (search needs, summed-begins (add-one (c .before .args .k)) (c .get .ensures))
+unfolding ofBits
+loop-holds c = (omega arith, omega arith, summed-begins refl refl)
 
 loop-again : tie.Need-loop-again Inv-loop μ-loop
-loop-again c = (omega arith, summed-turns (c .before .before .loop .inv .1) (c .get2 .ensures))
+loop-again c =
+    let turn = c .before .before .loop in
+    let s = c .before .before .before .args in
+    let place : s .r - (turn .q + 1) ≡ s .r - suc (turn .q) = omega arith in
+    (turn .inv .0, omega arith, summed-turns (turn .inv .2) (c .get .ensures ∙ ap (table (s .t .now) (s .k)) place))
 
 returns : tie.Need-returns Inv-loop μ-loop
 unfolding pivot
-returns c = record { sum = c .before .before .get .ensures; pivots = summed-ends (c .before .loop .inv .1) (omega arith) (omega arith) }
+returns c =
+    let left = c .before .before in
+    let s = left .before .args in
+    let hi = s .r - suc (s .k) in
+    record {
+      sum = c .get2 .ensures;
+      pivots = ap₂ (λ x y. x ⊕ y) (rw (sub-zero hi) at (summed-ends (left .loop .inv .2) {hi = hi} (omega arith) (omega arith))) (c .get2 .ensures);
+    }
 
 pub begin-spec : {M : Type 1} → statement M
 begin-spec =
@@ -31,11 +46,14 @@ begin-spec =
     (tie.spec
     Inv-loop
     μ-loop
-    (λ c κs. search needs)
+    (λ c. search needs)
     (λ c. search needs)
     loop-holds
+    (λ c. search needs)
+    (λ c. search needs)
     (λ c κs. search needs)
     (λ c. search needs)
     (λ c. search needs)
     loop-again
+    (λ c κs. search needs)
     returns)

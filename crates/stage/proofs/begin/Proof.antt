@@ -19,7 +19,7 @@ returns c =
     let tested = c .before .before .before .before in
     let begun = tested .before in
     let s = begun .before .before .args in
-    stage-begins (s .r) (s .k) (table (s .t .now)) (begun .begin .ensures) (tested .pivot-told .ensures) (c .multipliers .ensures .0) (c .multipliers .ensures .1)
+    stage-begins (s .r) (s .k) (table (s .t .now)) (begun .begin .ensures) (tested .is-finite .ensures) (c .multipliers .ensures .0) (c .multipliers .ensures .1)
 
 pub begin-spec : {M : Type 1} → statement M
 begin-spec =
