@@ -12,18 +12,20 @@ pub record System : Type 0 where
   pub t : ℕ → ℕ → Float
   pub s : ℕ → Float
 
--- A row of r numbers from its last one back.
+-- A row of r numbers from its last one back; row k's sizes after the diagonal, added so.
 abbrev pub falling : ℕ → (ℕ → Float) → ℕ → Float
 falling r row q = row (r - suc q)
 
+abbrev pub laterSizes : ℕ → System → ℕ → Float
+laterSizes r a k = sum 0·0 (falling r (a .t k)) 0 (r - suc k)
+
 -- Document 02, U8: "a pivot adds t_kj for j falling from n to k+1, starting at plus zero, and s_k last."
 unfoldable pub pivot : ℕ → System → ℕ → Float
-pivot r a k = sum 0·0 (falling r (a .t k)) 0 (r - suc k) ⊕ a .s k
+pivot r a k = laterSizes r a k ⊕ a .s k
 
 -- Its additions in range (question 10).
 unfoldable pub pivotInRange : ℕ → System → ℕ → Bool
-pivotInRange r a k =
-    sumInRange 0·0 (falling r (a .t k)) 0 (r - suc k) && addInRange (sum 0·0 (falling r (a .t k)) 0 (r - suc k)) (a .s k)
+pivotInRange r a k = sumInRange 0·0 (falling r (a .t k)) 0 (r - suc k) && addInRange (laterSizes r a k) (a .s k)
 
 -- "m = t_ik / p_k"
 unfoldable pub multiplier : ℕ → System → ℕ → ℕ → Float

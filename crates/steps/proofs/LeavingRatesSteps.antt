@@ -5,8 +5,8 @@ use mathlib.Core.Path.{_≡_, refl, sym, ap, _∙_}
 use native.Mathlib.Omega.{arith}
 use lib.Dec.{leb, eqb}
 use borrow.Author.Tests.{lt-leb}
-use Rattle.definitions.specs.Numbers.{_⊕_, _⊗_, _⊘_, 0·0, 1·0, sum}
-use Rattle.definitions.specs.LeavingRates.{System, falling, pivot, multiplier, eliminate, begun, downward, p, u, m↓, m↑, b↓, b↑, solved, quotient}
+use Rattle.definitions.specs.Numbers.{_⊕_, _⊗_, _⊘_, 0·0, 1·0}
+use Rattle.definitions.specs.LeavingRates.{System, laterSizes, pivot, multiplier, eliminate, begun, downward, p, u, m↓, m↑, b↓, b↑, solved, quotient}
 use Rattle.steps.proofs.TableLaws.{stored-at, storedTable-at}
 
 module _ (r : ℕ) (start : System) where
@@ -24,7 +24,7 @@ module _ (r : ℕ) (start : System) where
   at-next k h = begun-at (suc k) h ∙ ap (λ a. eliminate r a k) (sym (begun-at k (omega arith)))
 
 module _ (r : ℕ) (at : ℕ → System) where
-  pub pivot-is : (k : ℕ) → p r at k ≡ sum 0·0 (falling r (at k .t k)) 0 (r - suc k) ⊕ at k .s k
+  pub pivot-is : (k : ℕ) → p r at k ≡ laterSizes r (at k) k ⊕ at k .s k
   unfolding p pivot
   pivot-is k = refl
 

@@ -4,10 +4,9 @@ use Prim.Native.Nat.{ℕ, suc, _+_, _-_, _≤_, _<_, zero-le}
 use native.Mathlib.Omega.{arith}
 use mathlib.Core.Bool.{Bool, _&&_}
 use lib.Dec.{T}
-use lib.Ieee.{Float}
 use lib.Ieee.Fits.{and-i, and-r}
-use Rattle.definitions.specs.Numbers.{_⊕_, 0·0, finite, addInRange, sum, sumInRange}
-use Rattle.definitions.specs.LeavingRates.{System, falling, pivot, pivotInRange}
+use Rattle.definitions.specs.Numbers.{_⊕_, 0·0, finite, addInRange, sumInRange}
+use Rattle.definitions.specs.LeavingRates.{System, falling, laterSizes, pivot, pivotInRange}
 use Rattle.rounding.proofs.Finite.{sum-finite}
 use Rattle.rounding.proofs.RoundedSums.{total-in-range, term-finite}
 use Rattle.steps.proofs.FloatSums.{sum-same, sum-in-range-same}
@@ -16,7 +15,7 @@ module _ (r k : ℕ) (a b : System) (exits : a .s k ≡ b .s k) (sizes : (j : �
   falling-same : (q : ℕ) → 0 ≤ q → q < 0 + (r - suc k) → a .t k (r - suc q) ≡ b .t k (r - suc q)
   falling-same q l m = sizes (r - suc q) (omega arith) (omega arith)
 
-  sizes-same : sum 0·0 (falling r (a .t k)) 0 (r - suc k) ≡ sum 0·0 (falling r (b .t k)) 0 (r - suc k)
+  sizes-same : laterSizes r a k ≡ laterSizes r b k
   sizes-same = sum-same 0·0 0·0 (falling r (a .t k)) (falling r (b .t k)) 0 (r - suc k) refl falling-same
 
   pub pivot-same : pivot r a k ≡ pivot r b k
@@ -31,20 +30,16 @@ module _ (r k : ℕ) (a b : System) (exits : a .s k ≡ b .s k) (sizes : (j : �
       (ap₂ addInRange sizes-same exits)
 
 module _ (r : ℕ) (a : System) (k : ℕ) where
-  -- The sum of the sizes, and its additions in range.
-  abbrev sizes : Float
-  sizes = sum 0·0 (falling r (a .t k)) 0 (r - suc k)
-
   abbrev sizesInRange : Bool
   sizesInRange = sumInRange 0·0 (falling r (a .t k)) 0 (r - suc k)
 
   pub exit-of-pivot : T (finite (pivot r a k)) → T (finite (a .s k))
   unfolding pivot
-  exit-of-pivot t = sum-finite sizes (a .s k) t .1
+  exit-of-pivot t = sum-finite (laterSizes r a k) (a .s k) t .1
 
-  sizes-of-pivot : T (finite (pivot r a k)) → T (finite sizes)
+  sizes-of-pivot : T (finite (pivot r a k)) → T (finite (laterSizes r a k))
   unfolding pivot
-  sizes-of-pivot t = sum-finite sizes (a .s k) t .0
+  sizes-of-pivot t = sum-finite (laterSizes r a k) (a .s k) t .0
 
   pub size-of-pivot : T (finite (pivot r a k)) → (j : ℕ) → k < j → j < r → T (finite (a .t k j))
   size-of-pivot t j l m =
@@ -53,8 +48,8 @@ module _ (r : ℕ) (a : System) (k : ℕ) where
 
   pub finite-in-range : T (finite (pivot r a k)) → T (pivotInRange r a k)
   unfolding pivot pivotInRange addInRange
-  finite-in-range t = and-i sizesInRange (finite (sizes ⊕ a .s k)) (total-in-range 0·0 (falling r (a .t k)) 0 (r - suc k) (sizes-of-pivot t)) t
+  finite-in-range t = and-i sizesInRange (finite (laterSizes r a k ⊕ a .s k)) (total-in-range 0·0 (falling r (a .t k)) 0 (r - suc k) (sizes-of-pivot t)) t
 
   pub in-range-finite : T (pivotInRange r a k) → T (finite (pivot r a k))
   unfolding pivot pivotInRange addInRange
-  in-range-finite t = and-r sizesInRange (finite (sizes ⊕ a .s k)) t
+  in-range-finite t = and-r sizesInRange (finite (laterSizes r a k ⊕ a .s k)) t
