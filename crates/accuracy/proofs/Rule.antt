@@ -2,11 +2,11 @@
 use Prim.Native.Nat.{ℕ, zero, _-_, _*_, _<_}
 use native.Mathlib.Nat.{mul-le-mul}
 use native.Mathlib.Omega.{arith}
-use mathlib.Core.Bool.{Bool, true, false, _&&_, _||_}
+use mathlib.Core.Bool.{Bool, true, false, _&&_}
 use mathlib.Core.List.{List}
-use mathlib.Core.Logic.{_⊎_, inl, inr, ⊎-elim}
+use mathlib.Core.Logic.{⊎-elim}
 use mathlib.Core.Path.{_≡_, refl, sym, ap, _∙_, subst}
-use lib.Dec.{T, eqb, eqb→eq}
+use lib.Dec.{T}
 use lib.ListN.{length}
 use lib.Ieee.{Float}
 use lib.Ieee.Bits.{is-true, is-false}
@@ -37,7 +37,7 @@ use Rattle.inverse.specs.ExactRatios.{RatiosExist}
 use Rattle.inverse.specs.RowForms.{InUnits}
 use Rattle.inverse.specs.ReducedReadings.{LeavingRatesInverse, MarginsReduced}
 use Rattle.margins_accuracy.specs.MarginsAccuracy.{GoodMargins, sizesInUnits, marginsInUnits, MarginsAccuracy}
-use Rattle.steps.proofs.QuestionLaws.{then-first, then-next, ask-yes, reading-passed}
+use Rattle.steps.proofs.QuestionLaws.{then-first, then-next, ask-yes, reading-passed, reading-is}
 use Rattle.rates_accuracy.proofs.Input.{table-numbers, column-numbers, column-stage, size-is, diagonal-is, input-positive}
 use Rattle.rates_accuracy.proofs.CompactEquations.{stage}
 use Rattle.rates_accuracy.proofs.LiveSystem.{sheetEquations, size-to-idle, exit-live, sheet-out, live-good, live-out, live-solves}
@@ -169,17 +169,6 @@ second-reading n sheet fit e r =
     let (D, K, ratios) = ratios-exist n (sizesInUnits t) (marginsInUnits d) (input-positive n sheet fit e) in
     let v = margins-accuracy n t d D K good r ratios in
     margins-reduced n (12 * (n * n * n)) sheet (Margins.entry n t d) (sizesInUnits t) (marginsInUnits d) D K (v .Z) (v .z) units-of ratios (v .columns) (v .table)
-
--- Question 1 leaves two readings.
-reading-is : (reading : ℕ) → question1 reading ≡ pass → (reading ≡ 1) ⊎ (reading ≡ 2)
-unfolding question1
-reading-is reading e =
-    go (eqb reading 1) (eqb reading 2) (eqb→eq reading 1) (eqb→eq reading 2) (ask-yes (eqb reading 1 || eqb reading 2) 1 0 0 e)
-  where
-    go : (a b : Bool) → (T a → reading ≡ 1) → (T b → reading ≡ 2) → T (a || b) → (reading ≡ 1) ⊎ (reading ≡ 2)
-    go true b f g t = inl (f tt)
-    go false true f g t = inr (g tt)
-    go false false f g t = absurd t
 
 -- The table of reading 2 under the table's own names.
 second-table :

@@ -1,10 +1,10 @@
 -- The laws of a list of stages: as it grows, and what stands at its places.
-use mathlib.Core.Path.{_≡_, refl, sym, ap, ap₂, _∙_}
-use Prim.Native.Nat.{ℕ, zero, suc, _+_, _≤_, _<_}
+use mathlib.Core.Path.{_≡_, refl, sym, ap, _∙_}
+use Prim.Native.Nat.{ℕ, suc, _+_, _≤_, _<_}
 use native.Mathlib.Nat.{le-antisymm}
 use native.Mathlib.Numerals.{add-one}
 use native.Mathlib.Omega.{arith}
-use mathlib.Core.Bool.{Bool, true, false, not, _||_, cond}
+use mathlib.Core.Bool.{Bool, true, false, not, _||_}
 use mathlib.Core.List.{List, [], _∷_, _++_}
 use lib.ListN.{length, getD, set, length-set}
 use lib.Seq.{take-suc-set, getD-take, getD-set-same, getD-set-other}
@@ -13,7 +13,7 @@ use Rattle.exact.proofs.Bools.{contrary, same-truth, if-in, if-out}
 use Rattle.definitions.specs.Numbers.{all}
 use Rattle.definitions.specs.Compact.{stagesWith, rank}
 use Rattle.steps.proofs.All.{each-below, every-below}
-use Rattle.steps.proofs.CompactOrder.{list-take, list-leave, rank-none, rank-take, rank-leave, rank-within, rank-below, stage-of-rank, Listed, listed}
+use Rattle.steps.proofs.CompactOrder.{list-take, list-leave, list-alike, rank-none, rank-take, rank-leave, rank-within, rank-below, stage-of-rank, Listed, listed}
 use Rattle.compact.specs.Listing.{IsMask, MaskOf, stageAt, Listing, Stages, Found}
 
 -- ---- marks, one stage after another
@@ -112,17 +112,11 @@ module _ {test : ℕ → Bool} {n r : ℕ} {stages : List ℕ} (h : Listing test
       at-stage : ℕ → Bool
       at-stage i = not (test i) || p i
 
--- A list by another test that is the same below n.
-stages-same : (test other : ℕ → Bool) (n : ℕ) → ((i : ℕ) → i < n → test i ≡ other i) → stagesWith test n ≡ stagesWith other n
-unfolding stagesWith
-stages-same test other zero e = refl
-stages-same test other (suc n) e =
-    ap₂ (λ (l : List ℕ) b. l ++ cond b (n ∷ []) []) (stages-same test other n (λ i m. e i (omega arith))) (e n (omega arith))
-
+-- By another test that is the same below n.
 pub listing-same : {test other : ℕ → Bool} {n r : ℕ} {stages : List ℕ} → ((i : ℕ) → i < n → test i ≡ other i) → Listing test n r stages → Listing other n r stages
 unfolding rank
 listing-same {test} {other} {n} e h =
-    let s = stages-same test other n e in
+    let s = list-alike test other n e in
     record { long = h .long; counted = h .counted ∙ ap length s; front = h .front ∙ s }
 
 -- ---- a stage that was read from the list

@@ -1,21 +1,20 @@
 -- Sums over a common denominator, and sums over the stages that pass a test, counted in roundings.
 use Prim.Native.Nat.{ℕ, zero, suc, _+_, _*_, _<_}
 use native.Mathlib.Omega.{arith}
-use mathlib.Core.Bool.{Bool, true, false, not, _||_, cond}
+use mathlib.Core.Bool.{Bool, true, false, cond}
 use mathlib.Core.Path.{_≡_, refl, ap, _∙_, subst}
 use lib.Dec.{T}
 use lib.Ieee.{Float}
-use lib.Ieee.Fits.{and-l, and-r}
 use Rattle.exact.specs.Chains.{In}
 use Rattle.exact.specs.Near.{Near}
 use Rattle.exact.specs.Sums.{sum as total}
 use Rattle.exact.proofs.Sums.{sum-end, sum-scale}
 use Rattle.exact.proofs.Near.{near-eq, near-trans, near-grow, near-scale, near-add, near-addition, near-sum}
-use Rattle.definitions.specs.Numbers.{addInRange, sum, sumInRange, units}
+use Rattle.definitions.specs.Numbers.{sum, sumInRange, units}
 use Rattle.definitions.specs.Margins.{sumWith, sumWithInRange}
 use Rattle.rounding.specs.Good.{Good}
 use Rattle.rounding.proofs.Laws.{sum-good, sum-rounds, zero-is-good, units-zero}
-use Rattle.steps.proofs.FloatSums.{sumWith-none, sumWith-add, sumWith-pass}
+use Rattle.steps.proofs.FloatSums.{sumWith-none, sumWith-add, sumWith-pass, with-range-before, with-range-last}
 use Rattle.rates_accuracy.proofs.OperationErrors.{sum-near}
 
 -- Over a denominator c, where each term is within e of w_j.
@@ -34,17 +33,6 @@ module _ (start : Float) (f : ℕ → Float) (k : ℕ) (g : Good start) where
 
 -- The sum over the stages that pass a test.
 module _ (test : ℕ → Bool) (f : ℕ → Float) where
-  addition : ℕ → Bool
-  addition n = not (test n) || addInRange (sumWith test f n) (f n)
-
-  in-range-before : (n : ℕ) → T (sumWithInRange test f (suc n)) → T (sumWithInRange test f n)
-  unfolding sumWithInRange addition
-  in-range-before n t = and-l (sumWithInRange test f n) (addition n) t
-
-  in-range-last : (n : ℕ) → test n ≡ true → T (sumWithInRange test f (suc n)) → T (addInRange (sumWith test f n) (f n))
-  unfolding sumWithInRange addition
-  in-range-last n e t = rw e at (and-r (sumWithInRange test f n) (addition n) t)
-
   -- The terms that count.
   abbrev counted : ℕ → ℕ
   counted l = cond (test l) (units (f l)) 0
@@ -58,12 +46,12 @@ module _ (test : ℕ → Bool) (f : ℕ → Float) where
   sum-with zero h t =
       let none = sumWith-none test f in
       record { good = rw none zero-is-good; near = near-eq (ap units none ∙ units-zero) }
-  sum-with (suc n) h t = go (test n) refl (sum-with n (λ l b. h l (omega arith)) (in-range-before n t))
+  sum-with (suc n) h t = go (test n) refl (sum-with n (λ l b. h l (omega arith)) (with-range-before test f n t))
     where
       go : (b : Bool) → test n ≡ b → SumWith n → SumWith (suc n)
       go true e before =
           let here = h n (omega arith) e in
-          let last = in-range-last n e t in
+          let last = with-range-last test f n e t in
           let next = sumWith-add test f n e in
           let is : counted n ≡ units (f n) = rw e in
           let rounds = rw (← next) at (sum-rounds (sumWith test f n) (f n) (before .good) here last .near) in

@@ -6,18 +6,17 @@ use mathlib.Core.Logic.{⊎-elim}
 use mathlib.Core.Path.{_≡_, refl, sym, ap, _∙_}
 use native.Mathlib.Omega.{arith}
 use borrow.Author.Tests.{eq-eqb, le-leb}
-use lib.Dec.{eqb, eqb→eq}
+use lib.Dec.{eqb}
 use lib.IntN.{ℤ}
 use lib.ListN.{length, take, length-map}
 use lib.Seq.{take-at}
 use lib.Ieee.{binary64, ofBits}
 use lib.Ieee.Bits.{is-true}
-use Rattle.exact.proofs.Bools.{or-cases}
 use Rattle.definitions.specs.Questions.{pass, exponentInRange, question1, question2, question12, question3, sizeQuestions, shapeQuestions, question4}
 use Rattle.definitions.specs.Services.{given}
 use Rattle.definitions.specs.File.{Head, headReading, headStages, headUnit, fileLength, fileQuestions, headOf, fileAnswer, fileWords, fileNumbers}
 use Rattle.definitions.specs.Saving.{sheetFile, saveQuestions, saveAnswer, sheetWords, savedWords, savedNumbers}
-use Rattle.steps.proofs.QuestionLaws.{ask-yes, reading-passed, given-passes, given-is}
+use Rattle.steps.proofs.QuestionLaws.{ask-yes, reading-passed, reading-is, given-passes, given-is}
 use Rattle.shape.proofs.ShapeQuestions.{Sized, save-passed}
 use Rattle.payload.specs.SheetFile.{SheetFile}
 use Rattle.payload.proofs.FileWords.{file-passed, file-words-length}
@@ -39,10 +38,7 @@ module _ (reading n : ℕ) (e : ℤ) (held room : ℕ) (passes : saveQuestions r
   known = is-true (eqb reading 1 || eqb reading 2) (ask-yes (eqb reading 1 || eqb reading 2) 1 0 0 first)
 
   narrow : reading < 256 ^ 2
-  unfolding question1
-  narrow =
-      ⊎-elim (λ t. let e = eqb→eq reading 1 t in omega arith) (λ t. let e = eqb→eq reading 2 t in omega arith)
-      (or-cases (eqb reading 1) (eqb reading 2) (ask-yes (eqb reading 1 || eqb reading 2) 1 0 0 first))
+  narrow = ⊎-elim (λ e. omega arith) (λ e. omega arith) (reading-is reading first)
 
 -- A sheet that is saved: the first bytes of the area are its file.
 module _ (reading n : ℕ) (e : ℤ) (words area : List ℕ) {size : ℕ} (saves : saveAnswer reading n e (length words) (length area) ≡ given size) where

@@ -1,8 +1,8 @@
 -- Compact order: the listed stages rise, a stage's rank is its place in the list, and both ways lead back; and a system in it.
 use Prim.Native.Nat.{ℕ, zero, suc, _+_, _-_, _<_, _≤_}
-use mathlib.Core.Bool.{Bool, true, false}
-use mathlib.Core.List.{[], _∷_, _++_, append-nil}
-use mathlib.Core.Path.{_≡_, refl, sym, ap, _∙_}
+use mathlib.Core.Bool.{Bool, true, false, cond}
+use mathlib.Core.List.{List, [], _∷_, _++_, append-nil}
+use mathlib.Core.Path.{_≡_, refl, sym, ap, ap₂, _∙_}
 use native.Mathlib.Nat.{add-zero, add-suc, le-refl, le-trans}
 use native.Mathlib.Numerals.{add-one}
 use native.Mathlib.Decide.{decLt}
@@ -23,6 +23,16 @@ module _ (test : ℕ → Bool) where
   pub list-leave : (n : ℕ) → test n ≡ false → stagesWith test (suc n) ≡ stagesWith test n
   unfolding stagesWith
   list-leave n e = rw (e, stagesWith) (append-nil (stagesWith test n))
+
+  -- A list looks at its own stages alone.
+  pub list-alike : (other : ℕ → Bool) (n : ℕ) → ((i : ℕ) → i < n → test i ≡ other i) → stagesWith test n ≡ stagesWith other n
+  unfolding stagesWith
+  list-alike other zero e = refl
+  list-alike other (suc n) e = ap₂ (λ (l : List ℕ) b. l ++ cond b (n ∷ []) []) (list-alike other n (λ i m. e i (omega arith))) (e n (omega arith))
+
+  pub rank-alike : (other : ℕ → Bool) (n : ℕ) → ((i : ℕ) → i < n → test i ≡ other i) → rank test n ≡ rank other n
+  unfolding rank
+  rank-alike other n e = ap length (list-alike other n e)
 
   pub rank-none : rank test 0 ≡ 0
   unfolding rank stagesWith

@@ -1,9 +1,11 @@
 -- Sums of numbers look at their own terms alone.
 use Prim.Native.Nat.{ℕ, zero, suc, _+_, _≤_, _<_}
-use mathlib.Core.Bool.{Bool, true, false, _&&_}
+use mathlib.Core.Bool.{Bool, true, false, not, _&&_, _||_}
 use mathlib.Core.Path.{_≡_, refl, ap₂}
 use native.Mathlib.Omega.{arith}
+use lib.Dec.{T}
 use lib.Ieee.{Float}
+use lib.Ieee.Fits.{and-l, and-r}
 use Rattle.exact.proofs.Cases.{by-bool}
 use Rattle.exact.proofs.Bools.{if-same}
 use Rattle.definitions.specs.Numbers.{_⊕_, 0·0, addInRange, sum, sumInRange}
@@ -33,6 +35,19 @@ sumWith-add test f n e = rw (e, sumWith)
 pub sumWith-pass : (test : ℕ → Bool) (f : ℕ → Float) (n : ℕ) → test n ≡ false → sumWith test f (suc n) ≡ sumWith test f n
 unfolding sumWith
 sumWith-pass test f n e = rw (e, sumWith)
+
+module _ (test : ℕ → Bool) (f : ℕ → Float) where
+  -- Its additions, one after another.
+  addition : ℕ → Bool
+  addition n = not (test n) || addInRange (sumWith test f n) (f n)
+
+  pub with-range-before : (n : ℕ) → T (sumWithInRange test f (suc n)) → T (sumWithInRange test f n)
+  unfolding sumWithInRange addition
+  with-range-before n t = and-l (sumWithInRange test f n) (addition n) t
+
+  pub with-range-last : (n : ℕ) → test n ≡ true → T (sumWithInRange test f (suc n)) → T (addInRange (sumWith test f n) (f n))
+  unfolding sumWithInRange addition
+  with-range-last n e t = rw e at (and-r (sumWithInRange test f n) (addition n) t)
 
 -- They look at those stages alone.
 module _ {test other : ℕ → Bool} {f g : ℕ → Float} where

@@ -1,10 +1,11 @@
 -- Laws of the questions: one after another, and what it says of a sheet that they are answered yes.
 use Prim.Native.Nat.{ℕ, zero, suc, _+_, _≤_, _<_}
-use mathlib.Core.Bool.{Bool, true, false, _&&_}
+use mathlib.Core.Bool.{Bool, true, false, _&&_, _||_}
 use mathlib.Core.List.{List}
+use mathlib.Core.Logic.{_⊎_, inl, inr}
 use mathlib.Core.Path.{_≡_, refl, ap₂, _∙_}
 use native.Mathlib.Omega.{arith}
-use lib.Dec.{T, leb, leb→le}
+use lib.Dec.{T, leb, leb→le, eqb, eqb→eq}
 use lib.IntN.{ℤ, pos, negsuc}
 use lib.Signed.{mag}
 use lib.Ieee.{Float}
@@ -57,6 +58,17 @@ given-is (refuse number row column) value due e = cc
 pub ask-yes : (b : Bool) (n i j : ℕ) → ask b n i j ≡ pass → T b
 ask-yes true n i j e = tt
 ask-yes false n i j e = absurd (let z : _≡_ {A = ℕ} 0 1 = cc in omega arith)
+
+-- Question 1 leaves two readings.
+pub reading-is : (reading : ℕ) → question1 reading ≡ pass → (reading ≡ 1) ⊎ (reading ≡ 2)
+unfolding question1
+reading-is reading e =
+    go (eqb reading 1) (eqb reading 2) (eqb→eq reading 1) (eqb→eq reading 2) (ask-yes (eqb reading 1 || eqb reading 2) 1 0 0 e)
+  where
+    go : (a b : Bool) → (T a → reading ≡ 1) → (T b → reading ≡ 2) → T (a || b) → (reading ≡ 1) ⊎ (reading ≡ 2)
+    go true b f g t = inl (f tt)
+    go false true f g t = inr (g tt)
+    go false false f g t = absurd t
 
 -- Question 5, of one stage.
 pub is-stage : (k n : ℕ) → T (leb 1 k && leb k n) → (1 ≤ k) × (k ≤ n)

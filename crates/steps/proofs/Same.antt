@@ -63,6 +63,32 @@ unfolding begun
 begun-same r a b h zero l = h
 begun-same r a b h (suc k) l = eliminate-same r k (begun r a k) (begun r b k) (begun-same r a b h k (omega arith)) l
 
+-- Column j of b sees a system through its multipliers alone.
+module _ (r : ℕ) (at bt : ℕ → System)
+    (down : (k i : ℕ) → k < i → i < r → m↓ r at k i ≡ m↓ r bt k i) (upward : (k i : ℕ) → i < k → k < r → m↑ r at k i ≡ m↑ r bt k i)
+    (j : ℕ) where
+  -- In the rows that are still to come.
+  pub b↓-alike : (k i : ℕ) → k ≤ i → i < r → b↓ r at j k i ≡ b↓ r bt j k i
+  b↓-alike zero i l m = column-start r at j i ∙ sym (column-start r bt j i)
+  b↓-alike (suc k) i l m =
+      by-order j k
+      (λ q.
+      column-step r at j k i (le-leb j k q) m
+      ∙ step-same (b↓-alike k i (omega arith) m) (down k i l m) (b↓-alike k k (omega arith) (omega arith))
+      ∙ sym (column-step r bt j k i (le-leb j k q) m))
+      (λ q. ap (λ f. f i) (column-before r at j k (lt-leb j k q)) ∙ b↓-alike k i (omega arith) m ∙ ap (λ f. f i) (sym (column-before r bt j k (lt-leb j k q))))
+
+  pub b↑-alike : (q i : ℕ) → i + q < r → b↑ r at j q i ≡ b↑ r bt j q i
+  b↑-alike zero i l = upward-start r at j i (omega arith) ∙ b↓-alike i i (omega arith) (omega arith) ∙ sym (upward-start r bt j i (omega arith))
+  b↑-alike (suc q) i l =
+      upward-step r at j q i (omega arith)
+      ∙ step-same (b↑-alike q i (omega arith)) (upward (r - suc q) i (omega arith) (omega arith)) (b↑-alike q (r - suc q) (omega arith))
+      ∙ sym (upward-step r bt j q i (omega arith))
+
+  pub solved-alike : (i : ℕ) → i < r → solved r at j i ≡ solved r bt j i
+  unfolding solved
+  solved-alike i l = b↑-alike (r - suc i) i (omega arith)
+
 -- Over the systems as the stages begin.
 module _ (r : ℕ) (at bt : ℕ → System) (h : (k : ℕ) → k < r → Same r k (at k) (bt k)) where
   pub p-same : (k : ℕ) → k < r → p r at k ≡ p r bt k
@@ -81,27 +107,14 @@ module _ (r : ℕ) (at bt : ℕ → System) (h : (k : ℕ) → k < r → Same r 
   unfolding m↑
   m↑-same k i l m = ap₂ (λ x y. x ⊘ y) (u-same i k l m) (p-same k m)
 
-  -- Column j of b, in the rows that are still to come.
   pub b↓-same : (j k i : ℕ) → k ≤ i → i < r → b↓ r at j k i ≡ b↓ r bt j k i
-  b↓-same j zero i l m = column-start r at j i ∙ sym (column-start r bt j i)
-  b↓-same j (suc k) i l m =
-      by-order j k
-      (λ q.
-      column-step r at j k i (le-leb j k q) m
-      ∙ step-same (b↓-same j k i (omega arith) m) (m↓-same k i l m) (b↓-same j k k (omega arith) (omega arith))
-      ∙ sym (column-step r bt j k i (le-leb j k q) m))
-      (λ q. ap (λ f. f i) (column-before r at j k (lt-leb j k q)) ∙ b↓-same j k i (omega arith) m ∙ ap (λ f. f i) (sym (column-before r bt j k (lt-leb j k q))))
+  b↓-same j = b↓-alike r at bt m↓-same m↑-same j
 
   pub b↑-same : (j q i : ℕ) → i + q < r → b↑ r at j q i ≡ b↑ r bt j q i
-  b↑-same j zero i l = upward-start r at j i (omega arith) ∙ b↓-same j i i (omega arith) (omega arith) ∙ sym (upward-start r bt j i (omega arith))
-  b↑-same j (suc q) i l =
-      upward-step r at j q i (omega arith)
-      ∙ step-same (b↑-same j q i (omega arith)) (m↑-same (r - suc q) i (omega arith) (omega arith)) (b↑-same j q (r - suc q) (omega arith))
-      ∙ sym (upward-step r bt j q i (omega arith))
+  b↑-same j = b↑-alike r at bt m↓-same m↑-same j
 
   pub solved-same : (j i : ℕ) → i < r → solved r at j i ≡ solved r bt j i
-  unfolding solved
-  solved-same j i l = b↑-same j (r - suc i) i (omega arith)
+  solved-same j = solved-alike r at bt m↓-same m↑-same j
 
   pub quotient-same : (i j : ℕ) → i < r → quotient r at i j ≡ quotient r bt i j
   unfolding quotient
