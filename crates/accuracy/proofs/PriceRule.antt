@@ -7,8 +7,7 @@ use mathlib.Core.List.{List}
 use mathlib.Core.Path.{_≡_, refl, sym, _∙_}
 use mathlib.Core.Logic.{_⊎_, inl, inr}
 use lib.Dec.{T}
-use lib.IntN.{ℤ}
-use lib.ListN.{length, getD}
+use lib.ListN.{getD}
 use lib.Ieee.{Float, nan, binary64, le, fits}
 use lib.Ieee.Fits.{and-l, and-r}
 use Rattle.definitions.specs.Numbers.{_⊕_, _⊗_, 0·0, finite, isZero, addInRange, mulInRange, sum, sumInRange, all}
@@ -16,9 +15,9 @@ use Rattle.definitions.specs.Fractions.{Fraction, _+ᶠ_, _*ᶠ_, value, total}
 use Rattle.definitions.specs.Matrix.{matrix, everyStage}
 use Rattle.definitions.specs.Sheet.{takesPart, allowance}
 use Rattle.definitions.specs.Table.{entry, everyStepInRange}
-use Rattle.definitions.specs.Questions.{pass, ask, _then_, question4, largeEnough, numberQuestions}
+use Rattle.definitions.specs.Questions.{pass, largeEnough}
 use Rattle.definitions.specs.Accuracy.{Binary64, extended, exactPrice, AccuratePrices}
-use Rattle.definitions.specs.Prices.{unitPrice, question18, goodPrice, question19, priceShape, priceInput, requestPrice, priceInRange, pricesInRange, priceQuestions, priceAllowance}
+use Rattle.definitions.specs.Prices.{unitPrice, goodPrice, question19, requestPrice, priceInRange, pricesInRange, priceAllowance}
 use Rattle.rounding.specs.Good.{Good}
 use Rattle.rounding.proofs.Reversed.{le-not-above}
 use Rattle.rounding.proofs.RoundedSums.{range-before, range-last}
@@ -26,7 +25,8 @@ use Rattle.rounding.proofs.Laws.{good-finite, zero-is-good}
 use Rattle.rounding.proofs.Zeros.{plus-zero}
 use Rattle.rounding.proofs.AnyNumbers.{good-or-zero, plus-zero-of-sign, times-zero-of-sign}
 use Rattle.steps.proofs.All.{each-below}
-use Rattle.steps.proofs.QuestionLaws.{then-first, then-next, ask-yes, reading-passed, stages-yes}
+use Rattle.steps.proofs.QuestionLaws.{stages-yes}
+use Rattle.steps.proofs.AcceptedCalls.{AcceptedSheet, price-accepted, prices-fine}
 use Rattle.inverse.specs.Reduction.{NearFraction, EntryReduction}
 use Rattle.inverse.proofs.Reduction.{entry-reduction, zero-near}
 use Rattle.inverse.proofs.NearFractions.{near-more, near-plus, near-first, near-times, near-times-zero}
@@ -68,7 +68,7 @@ terms-near e f g (suc m) h t =
     near-more (omega arith) (next-term {e = e} (omega arith) before last (range-last 0·0 f 0 (suc m) t))
 
 -- What passes question 19.
-price-kind : (c : Float) → T (fits binary64 c) → T (goodPrice c) → Good c ⊎ T (isZero c)
+pub price-kind : (c : Float) → T (fits binary64 c) → T (goodPrice c) → Good c ⊎ T (isZero c)
 unfolding goodPrice
 price-kind c held t =
     let first = and-l (finite c && le 0·0 c) (largeEnough c) t in
@@ -86,47 +86,42 @@ price-sum (suc m) E x y c i near fine t =
     (and-r (all product 0 (suc m)) (sumInRange 0·0 f 0 (suc m)) t))
 
 -- ---- the rule
-price-fine : (n : ℕ) (prices : List Float) → Binary64 prices → question19 n prices ≡ pass → (j : ℕ) → j < n
+pub price-fine : (n : ℕ) (prices : List Float) → Binary64 prices → question19 n prices ≡ pass → (j : ℕ) → j < n
     → T (fits binary64 (unitPrice prices j)) × T (goodPrice (unitPrice prices j))
 unfolding Binary64 question19 unitPrice
 price-fine n prices held q j l = (held j, stages-yes (λ j. goodPrice (getD prices j nan)) 19 n q j l)
 
-module _ (reading n : ℕ) (e : ℤ) (sheet prices : List Float) (room : ℕ) (fit : Binary64 sheet) (held : Binary64 prices)
-    (input : priceInput reading n e sheet (length prices) room ≡ pass) (fine : question19 n prices ≡ pass) (range : T (pricesInRange reading n sheet prices)) where
+-- The steps of the table, and of each price.
+pub price-steps : (reading n : ℕ) (sheet prices : List Float) → T (pricesInRange reading n sheet prices)
+    → T (everyStepInRange reading n sheet) × ((i : ℕ) → i < n → T (priceInRange n (entry reading n sheet) (unitPrice prices) i))
+unfolding pricesInRange
+price-steps reading n sheet prices t =
+    let each = priceInRange n (entry reading n sheet) (unitPrice prices) in
+    let table = everyStepInRange reading n sheet in
+    (and-l table (all each 0 n) t, each-below n each (and-r table (all each 0 n) t))
+
+module _ (reading n : ℕ) (sheet prices : List Float) (fit : Binary64 sheet) (held : Binary64 prices)
+    (a : AcceptedSheet reading n sheet (pricesInRange reading n sheet prices)) (fine : question19 n prices ≡ pass) where
   abbrev x : ℕ → ℕ → Float
   x = entry reading n sheet
 
-  steps : T (everyStepInRange reading n sheet && all (priceInRange n x (unitPrice prices)) 0 n)
-  unfolding pricesInRange
-  steps = range
-
   pub accurate-prices : AccuratePrices n (takesPart reading n sheet) (priceAllowance reading n) (matrix reading n sheet) (unitPrice prices) (requestPrice n x (unitPrice prices))
-  unfolding priceInput priceShape priceAllowance EntryReduction PriceSum
+  unfolding priceAllowance EntryReduction PriceSum
   accurate-prices =
       let c = unitPrice prices in
       let E = allowance reading n in
-      let shape = then-first (priceShape reading n e (length sheet) (length prices) room) (numberQuestions reading n sheet) input in
-      let q = reading-passed reading n e (length sheet) (question4 n room then question18 n (length prices)) shape in
-      let numbers = then-next (priceShape reading n e (length sheet) (length prices) room) (numberQuestions reading n sheet) input in
-      let tests = all (priceInRange n x c) 0 n in
-      let table = near-table reading n sheet fit q numbers (and-l (everyStepInRange reading n sheet) tests steps) in
+      let steps = price-steps reading n sheet prices (a .in-range) in
+      let table = near-table reading n sheet fit (record { known = a .known; in-range = steps .0 }) in
       let y = extended (takesPart reading n sheet) (table .X) in
       record {
         X = table .X;
         exact = table .exact;
         within = λ i l.
             entry-reduction (E + n) (requestPrice n x c i) (exactPrice n y c i)
-            (price-sum n E x y c i (λ j m. table .entry i j l m) (price-fine n prices held fine)
-            (each-below n (priceInRange n x c) (and-r (everyStepInRange reading n sheet) tests steps) i l));
+            (price-sum n E x y c i (λ j m. table .entry i j l m) (price-fine n prices held fine) (steps .1 i l));
       }
 
 pub price-rule : PriceRule
-unfolding PriceRule priceQuestions
-price-rule reading n e sheet prices room fit held accepted =
-    let input = priceInput reading n e sheet (length prices) room in
-    let ten = ask (pricesInRange reading n sheet prices) 10 0 0 in
-    let later = then-next input (question19 n prices then ten) accepted in
-    accurate-prices reading n e sheet prices room fit held
-    (then-first input (question19 n prices then ten) accepted)
-    (then-first (question19 n prices) ten later)
-    (ask-yes (pricesInRange reading n sheet prices) 10 0 0 (then-next (question19 n prices) ten later))
+unfolding PriceRule
+price-rule reading n e sheet prices room fit held asked =
+    accurate-prices reading n sheet prices fit held (price-accepted reading n e sheet prices room asked) (prices-fine reading n e sheet prices room asked)

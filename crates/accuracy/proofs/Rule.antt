@@ -7,7 +7,6 @@ use mathlib.Core.List.{List}
 use mathlib.Core.Logic.{⊎-elim}
 use mathlib.Core.Path.{_≡_, refl, sym, ap, _∙_, subst}
 use lib.Dec.{T}
-use lib.ListN.{length}
 use lib.Ieee.{Float}
 use lib.Ieee.Bits.{is-true, is-false}
 use lib.Ieee.Fits.{and-l, and-r}
@@ -27,9 +26,9 @@ use Rattle.definitions.specs.Matrix.{matrix, everyStage}
 use Rattle.definitions.specs.Table.{liveCount, liveSystem, liveBegun, entry, everyStepInRange}
 use Rattle.definitions.specs.Fractions.{Fraction}
 use Rattle.definitions.specs.Accuracy.{Binary64, OnlyInverse, extended, Accurate, AccurateColumn, AccuracyRule}
-use Rattle.definitions.specs.Column.{columnInput, columnOf, columnInRange, columnQuestions}
+use Rattle.definitions.specs.Column.{columnOf, columnInRange}
 use Rattle.accuracy.specs.ColumnRule.{InverseRule, ColumnRule}
-use Rattle.definitions.specs.Questions.{pass, ask, question1, question4, question10, numberQuestions, tableInput, tableQuestions, Accepted, _then_}
+use Rattle.definitions.specs.Questions.{pass, numberQuestions, Accepted}
 use Rattle.rounding.specs.Good.{one·units}
 use Rattle.rates_accuracy.specs.LeavingRatesAccuracy.{identityColumn, EngineWithin, EngineAccuracy}
 use Rattle.inverse.specs.Reduction.{delta, Apart, fraction, NearFraction, EntryReduction, NearInverse, TableReduction}
@@ -37,8 +36,9 @@ use Rattle.inverse.specs.ExactRatios.{RatiosExist}
 use Rattle.inverse.specs.RowForms.{InUnits}
 use Rattle.inverse.specs.ReducedReadings.{LeavingRatesInverse, MarginsReduced}
 use Rattle.margins_accuracy.specs.MarginsAccuracy.{GoodMargins, sizesInUnits, marginsInUnits, MarginsAccuracy}
-use Rattle.steps.proofs.QuestionLaws.{then-first, then-next, ask-yes, reading-passed, reading-is}
-use Rattle.rates_accuracy.proofs.Input.{table-numbers, column-numbers, column-stage, size-is, diagonal-is, input-positive}
+use Rattle.steps.proofs.QuestionLaws.{reading-is}
+use Rattle.rates_accuracy.proofs.Input.{size-is, diagonal-is, input-positive}
+use Rattle.steps.proofs.AcceptedCalls.{AcceptedSheet, table-accepted, column-accepted, accepted-stage}
 use Rattle.rates_accuracy.proofs.CompactEquations.{stage}
 use Rattle.rates_accuracy.proofs.LiveSystem.{sheetEquations, size-to-idle, exit-live, sheet-out, live-good, live-out, live-solves}
 use Rattle.steps.proofs.CompactOrder.{rank-below, rank-within, stage-of-rank, listed}
@@ -178,33 +178,25 @@ unfolding everyStepInRange entry allowance takesPart
 second-table n sheet fit e r =
     subst (λ E. NearInverse n everyStage (12 * E) (matrix 2 n sheet) (entry 2 n sheet)) (sym (cube n)) (second-reading n sheet fit e r)
 
--- Both readings at once, from the questions of the numbers and the range of every step.
-module _ (reading n : ℕ) (sheet : List Float) (fit : Binary64 sheet) (q : question1 reading ≡ pass) (e : numberQuestions reading n sheet ≡ pass)
-    (r : T (everyStepInRange reading n sheet)) where
+-- Both readings at once.
+module _ (reading n : ℕ) (sheet : List Float) (fit : Binary64 sheet) (a : AcceptedSheet reading n sheet (everyStepInRange reading n sheet)) where
   pub near-table : NearInverse n (takesPart reading n sheet) (allowance reading n) (matrix reading n sheet) (entry reading n sheet)
   near-table =
       ⊎-elim
-      (λ one. rw one (first-table n sheet fit (rw one at e) (rw one at r)))
-      (λ two. rw two (second-table n sheet fit (rw two at e) (rw two at r)))
-      (reading-is reading q)
+      (λ one. rw one (first-table n sheet fit (rw one at (a .known .numbers)) (rw one at (a .in-range))))
+      (λ two. rw two (second-table n sheet fit (rw two at (a .known .numbers)) (rw two at (a .in-range))))
+      (reading-is reading (a .known .first))
 
   pub accurate-table : Accurate n (takesPart reading n sheet) (allowance reading n) (matrix reading n sheet) (entry reading n sheet)
   unfolding TableReduction
   accurate-table = table-reduction n (takesPart reading n sheet) (allowance reading n) (matrix reading n sheet) (entry reading n sheet) near-table
 
 pub accuracy-rule : AccuracyRule
-unfolding AccuracyRule Accepted tableQuestions tableInput question10
-accuracy-rule reading n e sheet fit accepted =
-    let input : tableInput reading n e sheet (n * n) ≡ pass = then-first (tableInput reading n e sheet (n * n)) (question10 reading n sheet) accepted in
-    let range : question10 reading n sheet ≡ pass = then-next (tableInput reading n e sheet (n * n)) (question10 reading n sheet) accepted in
-    accurate-table reading n sheet fit
-    (reading-passed reading n e (length sheet) (question4 (n * n) (n * n) then numberQuestions reading n sheet) input)
-    (table-numbers reading n e sheet (n * n) input)
-    (ask-yes (everyStepInRange reading n sheet) 10 0 0 range)
+unfolding AccuracyRule Accepted
+accuracy-rule reading n e sheet fit asked = accurate-table reading n sheet fit (table-accepted reading n e sheet (n * n) asked)
 
 pub column-rule : ColumnRule
-unfolding ColumnRule columnQuestions
-column-rule reading n e sheet room stage fit accepted =
-    let input = then-first (columnInput reading n e sheet room stage) (ask (columnInRange n sheet (stage - 1)) 10 0 0) accepted in
-    accurate-column n sheet fit (column-numbers reading n e sheet room stage input) (stage - 1) (column-stage reading n e sheet room stage input)
-    (ask-yes (columnInRange n sheet (stage - 1)) 10 0 0 (then-next (columnInput reading n e sheet room stage) (ask (columnInRange n sheet (stage - 1)) 10 0 0) accepted))
+unfolding ColumnRule
+column-rule reading n e sheet room stage fit asked =
+    let a = column-accepted reading n e sheet room stage asked in
+    accurate-column n sheet fit (a .known .numbers) (stage - 1) (accepted-stage reading n e sheet room stage asked) (a .in-range)

@@ -34,7 +34,7 @@ use Rattle.loading.proofs.LoadedSheet.{rates-are, loaded-system}
 use Rattle.accuracy.proofs.Rule.{accurate-column}
 use Rattle.accuracy.proofs.Same.{same-vector}
 use Rattle.writing.proofs.AcceptedArea.{vector-area}
-use Rattle.rates_accuracy.proofs.Input.{column-numbers, column-stage}
+use Rattle.steps.proofs.AcceptedCalls.{column-known, column-stage}
 use Rattle.answers.specs.declared.Filled.the-variants as given-column
 use Rattle.column_planner.specs.Promises.{ColumnStepped, ColumnDone}
 
@@ -141,5 +141,5 @@ module _ (reading n : ℕ) (e : ℤ) (sheet : List Float) (stage : ℕ) (before 
           area = held .area;
           accurate = λ p.
               same-vector (λ i. getD after i nan) (held .at)
-              (accurate-column n sheet fit (column-numbers reading n e sheet (length before) stage passed) (stage - 1) (column-stage reading n e sheet (length before) stage passed) (holds (sym (stepped .range) ∙ good)));
+              (accurate-column n sheet fit (column-known reading n e sheet (length before) stage passed .numbers) (stage - 1) (column-stage reading n e sheet (length before) stage passed) (holds (sym (stepped .range) ∙ good)));
         }

@@ -11,7 +11,7 @@ use Rattle.definitions.specs.Sheet.{place, takesPart, allowance}
 use Rattle.definitions.specs.Tables.{rows}
 use Rattle.definitions.specs.Table.{entry}
 use Rattle.definitions.specs.Matrix.{matrix}
-use Rattle.definitions.specs.Questions.{pass, refuse, _then_, question4, question5, question10, numberQuestions, tableInput, tableQuestions, entryInput, entryQuestions}
+use Rattle.definitions.specs.Questions.{pass, refuse, question10, tableInput, tableQuestions, entryInput, entryQuestions}
 use Rattle.definitions.specs.Accuracy.{Binary64, Accurate}
 use Rattle.definitions.specs.Services.{given, answer, filled, table, tableAnswer, tableArea, entryAnswer}
 use Rattle.tables.specs.RowMajor as working
@@ -19,8 +19,8 @@ use Rattle.shape.proofs.ShapeQuestions.{entry-input-passed}
 use Rattle.accuracy.proofs.Rule.{accurate-table}
 use Rattle.accuracy.proofs.Same.{same-table}
 use Rattle.writing.proofs.AcceptedArea.{table-area}
-use Rattle.steps.proofs.QuestionLaws.{never-both, reading-passed}
-use Rattle.rates_accuracy.proofs.Input.{table-numbers, entry-numbers}
+use Rattle.steps.proofs.QuestionLaws.{never-both}
+use Rattle.steps.proofs.AcceptedCalls.{table-known, entry-known}
 use Rattle.answers.specs.declared.Filled.the-variants as given-table
 use Rattle.answers.specs.declared.Entry.the-variants as given-entry
 use Rattle.readings.specs.Stepped.{Stepped}
@@ -52,12 +52,8 @@ module _ (reading n : ℕ) (e : ℤ) (sheet : List Float) where
       table-out-of-range bad = refused-with (out-of-range reading n sheet passed (stepped .range) bad)
 
       table-accurate : Binary64 sheet → ok ≡ true → Accurate n (takesPart reading n sheet) (allowance reading n) (matrix reading n sheet) (entry reading n sheet)
-      unfolding tableInput
       table-accurate fit good =
-          accurate-table reading n sheet fit
-          (reading-passed reading n e (length sheet) (question4 (n * n) (length before) then numberQuestions reading n sheet) passed)
-          (table-numbers reading n e sheet (length before) passed)
-          (holds (sym (stepped .range) ∙ good))
+          accurate-table reading n sheet fit (record { known = table-known reading n e sheet (length before) passed; in-range = holds (sym (stepped .range) ∙ good) })
 
       pub table-given : {after : List Float} {allowed : ℕ} → Binary64 sheet → ok ≡ true
           → after ≡ rows (working.table x) n n ++ drop (n * n) before → allowed ≡ allowance reading n
@@ -94,12 +90,8 @@ module _ (reading n : ℕ) (e : ℤ) (sheet : List Float) where
       entry-out-of-range bad = entry-refused-with (out-of-range reading n sheet passed (stepped .range) bad)
 
       entry-accurate : Binary64 sheet → ok ≡ true → Accurate n (takesPart reading n sheet) (allowance reading n) (matrix reading n sheet) (entry reading n sheet)
-      unfolding entryInput
       entry-accurate fit good =
-          accurate-table reading n sheet fit
-          (reading-passed reading n e (length sheet) (question5 n i j then numberQuestions reading n sheet) passed)
-          (entry-numbers reading n e sheet i j passed)
-          (holds (sym (stepped .range) ∙ good))
+          accurate-table reading n sheet fit (record { known = entry-known reading n e sheet i j passed; in-range = holds (sym (stepped .range) ∙ good) })
 
       pub entry-given : {value : Float} → Binary64 sheet → ok ≡ true → value ≡ working.table x (i - 1) (j - 1) → EntryDone reading n e sheet i j (given-entry.Seconds value)
       unfolding entryAnswer entryQuestions

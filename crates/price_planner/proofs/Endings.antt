@@ -14,6 +14,7 @@ use Rattle.definitions.specs.Accuracy.{Binary64}
 use Rattle.definitions.specs.Services.{given, answer, filled}
 use Rattle.definitions.specs.Prices.{unitPrice, question19, priceInput, requestPrice, pricesInRange, priceQuestions, priceAllowance, priceAnswer, requestPrices, priceArea}
 use Rattle.steps.proofs.QuestionLaws.{never-both, then-assoc, then-first, then-next}
+use Rattle.steps.proofs.AcceptedCalls.{price-known}
 use Rattle.tables.specs.Vectors.{vector}
 use Rattle.accuracy.proofs.PriceRule.{accurate-prices}
 use Rattle.accuracy.proofs.Same.{same-vector}
@@ -65,5 +66,6 @@ module _ (reading n : ℕ) (e : ℤ) (sheet prices before : List Float) where
           area = placed .area;
           accurate = λ p.
               same-vector (λ i. getD after i nan) (placed .at)
-              (accurate-prices reading n e sheet prices (length before) fit held input fine (holds (sym (stepped .range) ∙ good)));
+              (accurate-prices reading n sheet prices fit held
+              (record { known = price-known reading n e sheet (length prices) (length before) input; in-range = holds (sym (stepped .range) ∙ good) }) fine);
         }

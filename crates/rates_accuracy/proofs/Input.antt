@@ -1,14 +1,12 @@
 -- What the questions leave: an accepted sheet has good sizes and good diagonals; under reading 1 its moves and exits are numbers that
 -- are not zero, under reading 2 its diagonals are positive.
-use Prim.Native.Nat.{ℕ, zero, suc, _+_, _-_, _*_, _<_}
+use Prim.Native.Nat.{ℕ, zero, suc, _+_, _*_, _<_}
 use mathlib.Core.Bool.{Bool, true, false, not, cond}
 use mathlib.Core.List.{List}
 use mathlib.Core.Path.{_≡_, refl}
 use mathlib.Core.Logic.{_≢_}
 use native.Mathlib.Omega.{arith}
 use lib.Dec.{T, eqb, ltb, lt→ltb, ltb→lt}
-use lib.IntN.{ℤ}
-use lib.ListN.{length}
 use lib.Ieee.{Float, nan, inf, fin, binary64, fits, lt, le, eq}
 use borrow.Author.Tests.{eq-eqb, ne-eqb}
 use lib.Ieee.Fits.{and-r}
@@ -17,44 +15,14 @@ use Rattle.exact.proofs.Bools.{or-l}
 use Rattle.definitions.specs.Numbers.{0·0, finite, isZero, units}
 use Rattle.definitions.specs.Sheet.{place, size, diagonal}
 use Rattle.definitions.specs.Accuracy.{Binary64}
-use Rattle.definitions.specs.Questions.{Asked, pass, _then_, sizeQuestions, shapeQuestions, question4, question5, rightSign, moves, leaves, question9, placeQuestions, numberQuestions, tableInput, entryInput}
-use Rattle.definitions.specs.Column.{columnReading, columnShape, columnInput}
+use Rattle.definitions.specs.Questions.{pass, rightSign, moves, leaves, question9, placeQuestions, numberQuestions}
 use Rattle.rounding.specs.Good.{Good}
 use Rattle.rounding.proofs.Laws.{zero-is-good, units-zero, is-zero}
 use Rattle.rounding.proofs.Order.{lt-units}
 use Rattle.rounding.proofs.Reversed.{le-not-above}
 use Rattle.rounding.proofs.Zeros.{IsSize, plus-zero, size-of-negative, size-of-positive}
 use Rattle.steps.proofs.Sizes.{size-at, diagonal-at}
-use Rattle.steps.proofs.QuestionLaws.{then-first, then-next, one-stage, number-finite, number-sign}
-
--- The questions of the numbers come last, whichever service asks.
-after-two : (a b x : Asked) → (a then b then x) ≡ pass → x ≡ pass
-after-two a b x e = then-next b x (then-next a (b then x) e)
-
-pub table-numbers :
-    (reading n : ℕ) (e : ℤ) (sheet : List Float) (room : ℕ) → tableInput reading n e sheet room ≡ pass → numberQuestions reading n sheet ≡ pass
-unfolding tableInput
-table-numbers reading n e sheet room = after-two (shapeQuestions reading n e (length sheet)) (question4 (n * n) room) (numberQuestions reading n sheet)
-
-pub entry-numbers :
-    (reading n : ℕ) (e : ℤ) (sheet : List Float) (i j : ℕ) → entryInput reading n e sheet i j ≡ pass → numberQuestions reading n sheet ≡ pass
-unfolding entryInput
-entry-numbers reading n e sheet i j = after-two (shapeQuestions reading n e (length sheet)) (question5 n i j) (numberQuestions reading n sheet)
-
-pub column-numbers :
-    (reading n : ℕ) (e : ℤ) (sheet : List Float) (room stage : ℕ) → columnInput reading n e sheet room stage ≡ pass → numberQuestions 1 n sheet ≡ pass
-unfolding columnInput
-column-numbers reading n e sheet room stage = then-next (columnShape reading n e (length sheet) room stage) (numberQuestions 1 n sheet)
-
-pub column-stage : (reading n : ℕ) (e : ℤ) (sheet : List Float) (room stage : ℕ) → columnInput reading n e sheet room stage ≡ pass → stage - 1 < n
-unfolding columnInput columnShape
-column-stage reading n e sheet room stage q =
-    let five =
-    then-next (question4 n room) (question5 n stage stage)
-    (after-two (columnReading reading) (sizeQuestions n e (length sheet)) (question4 n room then question5 n stage stage)
-    (then-first (columnShape reading n e (length sheet) room stage) (numberQuestions 1 n sheet) q)) in
-    let stages = one-stage n stage five in
-    omega arith
+use Rattle.steps.proofs.QuestionLaws.{then-first, then-next, number-finite, number-sign}
 
 less-or-equal : (x y : Float) → T (lt x y) → T (le x y)
 unfolding le

@@ -17,7 +17,7 @@ use Rattle.rounding.proofs.Laws.{is-zero}
 use Rattle.steps.proofs.Pivot.{finite-in-range}
 use Rattle.rates_accuracy.specs.LeavingRatesAccuracy.{inUnits, GoodSystem, StagesGetOut}
 use Rattle.rates_accuracy.specs.Pivots.{NoPivotIsZeroInSystems, NoPivotIsZero}
-use Rattle.rates_accuracy.proofs.Input.{table-numbers}
+use Rattle.steps.proofs.AcceptedCalls.{table-known}
 use Rattle.rates_accuracy.proofs.LiveSystem.{live-good, live-out}
 use Rattle.rates_accuracy.proofs.PivotErrors.{pivot-good, pivot-near}
 use Rattle.rates_accuracy.proofs.LeavingRatesStages.{stages-good, stages-out}
@@ -66,5 +66,5 @@ no-pivot-is-zero-in-systems r start g o k h t =
 pub no-pivot-is-zero : NoPivotIsZero
 unfolding NoPivotIsZero NoPivotIsZeroInSystems liveCount liveBegun
 no-pivot-is-zero n e sheet fit input =
-    let numbers = table-numbers 1 n e sheet (n * n) input in
+    let numbers = table-known 1 n e sheet (n * n) input .numbers in
     no-pivot-is-zero-in-systems (liveCount n sheet) (liveSystem n sheet) (live-good n sheet fit numbers) (live-out n sheet fit numbers)

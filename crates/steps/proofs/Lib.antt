@@ -11,6 +11,7 @@ pub mod CompactOrder
 pub mod LiveStages
 pub mod MarginsSteps
 pub mod QuestionLaws
+pub mod AcceptedCalls
 pub mod Searches
 pub mod Trapped
 pub mod ZeroColumn
