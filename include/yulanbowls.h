@@ -2,7 +2,8 @@
  * Yulanbowls for C and C++ programs: dwell times from a flow sheet. The archive is libhosts.a, which
  * `rt staticlib hosts` builds for x86-64 Linux. What is promised below is proved of the library's code;
  * the exact statements are the `ensures` of crates/hosts/src/lib.rt, crates/hosts/specs/,
- * crates/table_calls/specs/, crates/file_calls/specs/ and crates/move_calls/specs/.
+ * crates/table_calls/specs/, crates/file_calls/specs/ and crates/move_calls/specs/, and for what joins a move
+ * with other calls crates/commuting/specs/.
  *
  * The sheet
  *   n stages, 1 to 32, a time unit of 2^e seconds, e from -512 to 512, and n * n numbers, row by row, so at most
@@ -187,7 +188,9 @@ size_t yulanbowls_save_words(size_t reading, size_t n, int64_t e,
  *
  * The numbers of a sheet are rates, so from seconds, e = 0, to a clock that ticks 1,024 times a second k is -10: a
  * rate per tick is the rate per second divided by 1,024. The table of the moved sheet counts ticks, 1,024 to the
- * second.
+ * second: if the table of the sheet and that of the moved sheet are both accepted, each entry of the second has the
+ * bits of the first's times 2^-k, and so have a column, an entry, and prices for the same `prices`. Moving by a and
+ * then by b gives the bits and the e of moving by a + b, if both moves are accepted and a + b is from -512 to 512.
  *
  * 9 and 10 are not looked for: a sheet with a stage that nobody leaves is moved too, and the table may refuse a
  * moved sheet although it accepts the sheet itself.

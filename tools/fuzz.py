@@ -8,6 +8,10 @@ place and every place of every lent area, before and after, bit for bit (`tools/
 on the seed alone.  A line for each export says how many calls had which answer.  Exit status 1 at the first
 difference, which is printed with its call, or if a refusal of an export, or an accepted sheet with idle stages
 where it makes seconds, never came up in 10,000 calls or more.
+
+Then it tries as many times each law that joins several calls, on what the library itself wrote: moving units commutes
+with the services, and two moves are one (document 02, U9).  A line for each law says how often which case came up;
+exit status 1 where a law does not hold, or where a case never came up in 10,000 tries or more.
 """
 from __future__ import annotations
 
@@ -23,7 +27,7 @@ from dataclasses import dataclass
 from pathlib import Path
 from typing import Callable, NamedTuple, Sequence
 
-from hosts import PLACES, TEXT_BYTES, Calls, Difference, Library, declared
+from hosts import PLACES, TEXT_BYTES, Calls, Difference, Library, Told, declared
 import reference
 from reference import FURTHEST_POWER, LARGEST, POWERS_OUT_OF_RANGE, SMALLEST_NORMAL, bits_of
 
@@ -432,12 +436,122 @@ def fuzz(library: Library, name: str, count: int, seed: int) -> bool:
     return not (missing and count >= 10000)
 
 
+# ==== Laws of several calls ====
+
+def agree(got: object, due: object, what: str) -> None:
+    """What a call left, and what a law makes of another call's answer."""
+    if got != due:
+        raise Difference(f"{what}: {got} where {due} is due")
+
+
+def times_back(words: Sequence[int], k: int) -> list[int]:
+    """Numbers of a table, each divided by 2^k, by their bits: plus zero stays, and else the exponent is less by k."""
+    return [word and word - (k << 52) for word in words]
+
+
+def unit_from(rng: random.Random, *moves: int) -> int:
+    """An e from which each of these moves, one after another, stays in the range of e, if there is one."""
+    far = [sum(moves[:count]) for count in range(len(moves) + 1)]
+    least, most = -FURTHEST_POWER - min(far), FURTHEST_POWER - max(far)
+    return rng.randint(least, most) if least <= most else 0
+
+
+def same_times_back(service: str, k: int, numbers: int, seen: Counter[str], first: tuple[Told, Sequence[int]],
+                    second: tuple[Told, Sequence[int]]) -> None:
+    """Two calls of a service, by what they told and left: on a sheet, and on the sheet moved by 2^k.  If both are
+    accepted, the second's first numbers are the first's divided by 2^k, and what else is handed over is the same."""
+    accepted = [told[0] == 0 for told, _ in (first, second)]
+    seen[f"{service}: " + ("both accepted" if all(accepted) else "one alone" if any(accepted) else "none")] += 1
+    if all(accepted):
+        (_, before), (_, after) = first, second
+        agree(list(after[:numbers]), times_back(before[:numbers], k), f"{service} of the moved sheet")
+        agree(after[numbers:], before[numbers:], f"allowance of the {service}")
+
+
+def try_commuting(calls: Calls, rng: random.Random, seen: Counter[str]) -> None:
+    """Moving units commutes with the services."""
+    reading, n = rng.choice([1, 2]), some_n(rng, 6)
+    numbers, k = reference.sheet_to_commute(rng, reading, n)
+    sheet, e = [bits_of(x) for x in numbers], unit_from(rng, k)
+    if calls.move(reading, n, e, sheet, k, n * n)[0]:
+        seen["not moved"] += 1
+        return
+    moved, moved_e = calls.left[:n * n], e + k
+    if rng.random() < 0.5:      # the other way round
+        sheet, e, k, moved, moved_e = list(moved), moved_e, -k, sheet, e
+    i, j, prices = rng.randint(1, n), rng.randint(1, n), [bits_of(x) for x in reference.random_prices(rng, n)]
+    services: dict[str, tuple[int, Callable[[int, Sequence[int]], Told]]] = {
+        "table": (n * n, lambda e, words: calls.table(reading, n, e, words, n * n)),
+        "entry": (1, lambda e, words: calls.entry(reading, n, e, words, i, j)),
+        "column": (n, lambda e, words: calls.column(reading, n, e, words, j, n)),
+        "prices": (n, lambda e, words: calls.prices(reading, n, e, words, prices, n))}
+    for service, (count, call) in services.items():
+        first = call(e, sheet), calls.left
+        second = call(moved_e, moved), calls.left
+        same_times_back(service, k, count, seen, first, second)
+
+
+def try_two_moves(calls: Calls, rng: random.Random, seen: Counter[str]) -> None:
+    """Two moves are one: the second move and the single one, lent areas with the same contents, leave them equal, and
+    the same e."""
+    reading, n = rng.choice([1, 2]), some_n(rng, 6)
+    numbers = reference.sheet_to_move(rng, reading, n)
+    a = reference.random_power(rng, numbers)
+    b = rng.choice([-a, reference.random_power(rng, numbers) - a, rng.randint(-FURTHEST_POWER, FURTHEST_POWER)])
+    sheet, e = [bits_of(x) for x in numbers], unit_from(rng, a, b)
+    if calls.move(reading, n, e, sheet, a, n * n)[0]:
+        seen["the first refused"] += 1
+        return
+    moved, room, state = calls.left[:n * n], n * n + rng.choice([0, 3, 40]), rng.getstate()
+    told, left = calls.move(reading, n, e + a, moved, b, room), calls.left
+    if told[0]:
+        seen["the second refused"] += 1
+        return
+    rng.setstate(state)         # so the second area holds the same
+    alone = calls.move(reading, n, e, sheet, a + b, room)
+    if abs(a + b) > FURTHEST_POWER:
+        seen["a + b out of range"] += 1
+        agree(alone, (15, 0, 0), "the single move")
+        return
+    seen["one move"] += 1
+    agree((alone, calls.left), ((0, 0, 0), left), "the single move and what it left")
+
+
+ACCEPTANCE = ["both accepted", "one alone", "none"]
+
+# Each law with the cases that have to come up.
+LAWS: dict[str, tuple[Callable[[Calls, random.Random, Counter[str]], None], set[str]]] = {
+    "moving_commutes": (try_commuting, {"not moved", *(
+        f"{service}: {case}" for service in ("table", "entry", "column", "prices") for case in ACCEPTANCE)}),
+    "two_moves": (try_two_moves, {"the first refused", "the second refused", "a + b out of range", "one move"}),
+}
+
+
+def fuzz_law(library: Library, name: str, count: int, seed: int) -> bool:
+    """So many tries of a law; whether it held in all, and every case came up."""
+    law, cases = LAWS[name]
+    seen: Counter[str] = Counter()
+    for at in range(count):
+        rng = random.Random(f"{seed} {name} {at}")
+        try:
+            law(Calls(library, rng), rng, seen)
+        except Difference as difference:
+            print(f"{name}: try {at} of seed {seed}: {difference}", flush=True)
+            return False
+    print(f"{name}: holds in {count} tries; {', '.join(f'{case} {seen[case]}' for case in sorted(seen))}", flush=True)
+    missing = sorted(cases - set(seen))
+    if missing and count >= 10000:
+        print(f"{name}: never {', '.join(missing)}", flush=True)
+    return not (missing and count >= 10000)
+
+
 def parsed(arguments: Sequence[str]) -> argparse.Namespace:
     """The options."""
     parser = argparse.ArgumentParser(prog="fuzz.py", description=__doc__.split("\n")[0])
-    parser.add_argument("--calls", type=int, default=10000, metavar="N", help="calls of each export")
+    parser.add_argument("--calls", type=int, default=10000, metavar="N", help="calls of each export, tries of each law")
     parser.add_argument("--seed", type=int, default=1, metavar="S", help="another seed makes other calls")
-    parser.add_argument("--only", default=None, metavar="NAME", choices=sorted(EXPORTS), help="one export")
+    parser.add_argument("--only", default=None, metavar="NAME", choices=[*sorted(EXPORTS), *LAWS],
+                        help="one export or one law")
     parser.add_argument("--archive", type=Path, default=None, metavar="FILE", help="this archive, and build none")
     return parser.parse_args(arguments)
 
@@ -450,8 +564,8 @@ def main(arguments: Sequence[str]) -> int:
         return 1
     with tempfile.TemporaryDirectory() as folder:
         library = Library(folder, options.archive)
-        names = [options.only] if options.only else list(EXPORTS)
-        done = [fuzz(library, name, options.calls, options.seed) for name in names]
+        names = [options.only] if options.only else [*EXPORTS, *LAWS]
+        done = [(fuzz if name in EXPORTS else fuzz_law)(library, name, options.calls, options.seed) for name in names]
     return 0 if all(done) else 1
 
 

@@ -132,10 +132,12 @@ def report_text(data: bytes) -> bytes:
 # ==== The calls ====
 
 class Calls:
-    """Single calls, each held to the reference; a call's answer is handed back."""
+    """Single calls, each held to the reference; a call's answer is handed back.  `left` is what the last table,
+    column, entry, prices or move left: the words of its area, and behind them what it handed over."""
 
     def __init__(self, library: Library, rng: random.Random) -> None:
         self.library, self.rng = library, rng
+        self.left: tuple[int, ...] = ()
 
     def area(self, places: int) -> Lent:
         """An area with any bits in it, NaN patterns among them."""
@@ -173,6 +175,7 @@ class Calls:
             entries, word = packed([bits_of(x) for x in answer.entries]), answer.allowance
         self.handed(allowance, word, "allowance")
         self.same(area.after(), entries + area.content[len(entries):], "answer area")
+        self.left = area.words() + allowance.words()
 
     def table(self, reading: int, n: int, e: int, words: Sequence[int], room: int) -> Told:
         """The whole table of a sheet, given by its 64-bit words, with an area of so many places."""
@@ -203,6 +206,7 @@ class Calls:
                                    seconds=seconds, row=row, column=column)
         answer = reference.entry(reading, n, e, [number_of(word) for word in words], i, j)
         self.handed(seconds, bits_of(answer.value) if isinstance(answer, Seconds) else None, "seconds")
+        self.left = seconds.words()
         self.same(sheet.after(), sheet.content, "sheet")
         return self.refusal(number, row, column, answer)
 
@@ -270,6 +274,7 @@ class Calls:
         self.handed(moved_e, answer.e if isinstance(answer, Moved) else None, "moved_e")
         self.same(area.after(), moved + area.content[len(moved):], "area")
         self.same(sheet.after(), sheet.content, "sheet")
+        self.left = area.words() + moved_e.words()
         return self.refusal(number, row, column, answer)
 
     def report(self, data: bytes, room: int) -> bytes:

@@ -2003,6 +2003,143 @@ def test_random_moves(check: Checks, rng: random.Random, long: bool) -> None:
     check.true(f"{moved} sheets moved, {further} again, {refused} refused", min(moved, further, refused) > 100)
 
 
+# ==== Moving and the table (02, U9) ====
+
+@dataclass
+class BothAccepted:
+    """Of pairs of calls, on a sheet and on the same sheet moved: how often both were accepted, one alone, or none."""
+    both: int = 0
+    first: int = 0
+    second: int = 0
+    none: int = 0
+
+    def add(self, first: bool, second: bool) -> bool:
+        """Counts a pair; whether both were accepted."""
+        self.both += first and second
+        self.first += first and not second
+        self.second += second and not first
+        self.none += not (first or second)
+        return first and second
+
+
+def divided_bits(entries: Sequence[float], k: int) -> list[int]:
+    """The bits of numbers of a table, each divided by 2^k: the exponent field, minus k, is one of a number above
+    2^-1022."""
+    words = [bits_of(x) for x in entries]
+    if not all(word == 0 or 1 <= (word >> 52) - k <= 0x7fe for word in words):
+        raise Failed(f"a number of {entries} divided by 2^{k} is out of range")
+    return [word and word - (k << 52) for word in words]
+
+
+def check_commutes(check: Checks, what: str, k: int, got: Union[Table, Column, Prices, Refused],
+                   moved: Union[Table, Column, Prices, Refused], seen: BothAccepted) -> None:
+    """Two calls of a service, on a sheet and on that sheet moved by 2^k.  If both are accepted, the second has the
+    numbers of the first divided by 2^k, and the same allowance."""
+    if seen.add(not isinstance(got, Refused), not isinstance(moved, Refused)):
+        check.equal(f"{what}, moved by 2^{k}", [bits_of(x) for x in moved.entries], divided_bits(got.entries, k))
+        check.equal(f"{what}, allowance", moved.allowance, got.allowance)
+    else:
+        out = [answer for answer in (got, moved) if isinstance(answer, Refused)]
+        check.true(f"{what}, moved by 2^{k}: {out}", len(out) == 2 or out[0].number == 10)
+
+
+@dataclass
+class Commuting:
+    """What came up in `check_services`: pairs of tables, of columns and of prices."""
+    tables: BothAccepted
+    columns: BothAccepted
+    prices: BothAccepted
+
+
+def check_services(check: Checks, rng: random.Random, reading: int, n: int, e: int, sheet: Sequence[float], k: int,
+                   moved: Moved, seen: Commuting) -> None:
+    """Every service on a sheet and on that sheet moved by 2^k."""
+    first, second = table(reading, n, e, sheet, n * n), table(reading, n, moved.e, moved.numbers, n * n)
+    check_commutes(check, f"table of {sheet}", k, first, second, seen.tables)
+    i, j = rng.randint(1, n), rng.randint(1, n)
+    one, other = entry(reading, n, e, sheet, i, j), entry(reading, n, moved.e, moved.numbers, i, j)
+    if isinstance(one, Seconds) and isinstance(other, Seconds):
+        check.equal(f"entry of {sheet}", [bits_of(other.value)], divided_bits([one.value], k))
+    prices = random_prices(rng, n)
+    check_commutes(check, f"prices of {sheet}, {prices}", k, request_prices(reading, n, e, sheet, prices, n),
+                   request_prices(reading, n, moved.e, moved.numbers, prices, n), seen.prices)
+    if reading == LEAVING_RATES:
+        check_commutes(check, f"column {j} of {sheet}", k, column(1, n, e, sheet, j, n),
+                       column(1, n, moved.e, moved.numbers, j, n), seen.columns)
+
+
+def test_commuting_documents(check: Checks) -> None:
+    """The papers' sheets moved, with their tables: what both are accepted for is the same but for the power, and that
+    one is accepted does not say that the other is."""
+    for what, reading, n, sheet, k, expected in [
+            ("P in ticks", 1, 2, P_SHEET, -10, [1024.0, 1024.0, 1024.0, 2048.0]),
+            ("P", 1, 2, P_SHEET, 512, [2.0 ** -512, 2.0 ** -512, 2.0 ** -512, 2.0 ** -511]),
+            ("H", 2, 2, [3.0, -1.0, -4.0, 1.0], 3, [0.0625, 0.03125, 0.125, 0.125]),
+            ("I", 2, 2, [2.0, 0.0, -1.0, 4.0], -1, [1.0, 0.0, 0.25, 0.5]),
+            ("B, which is idle", 1, 1, [0.0], -512, [0.0]),
+            ("D, half of it idle", 1, 2, [1.0, -0.0, 0.0, 0.0], 2, [0.25, 0.0, 0.0, 0.0]),
+            ("E becomes F", 1, 1, [2.0 ** 1021], 1, Refused(10)),
+            ("F becomes E", 1, 1, [2.0 ** 1022], -1, [2.0 ** -1021]),
+            ("E and F of margins", 2, 1, [2.0 ** 1021], 1, Refused(10)),
+            ("C stays trapped", 1, 2, [0.0, -1.0, -1.0, 0.0], 5, Refused(9, 1))]:
+        moved = move(reading, n, IN_SECONDS, sheet, k, n * n)
+        got = table(reading, n, moved.e, moved.numbers, n * n)
+        check.equal(what, words_of(got if isinstance(got, Refused) else got.entries), words_of(expected))
+
+
+def test_two_moves(check: Checks) -> None:
+    """Moving by a and then by b, beside moving by a + b: the same numbers and the same e; 15 where a + b is out of
+    range, although both moves are accepted; and the single move is accepted where one of the two is not."""
+    for what, e, sheet, a, b, expected in [
+            ("there and back", 0, [2.0 ** -510], -512, 512, Moved([2.0 ** -510], 0)),
+            ("a + b at its end", -512, [2.0 ** -900], 300, 212, Moved([2.0 ** -388], 0)),
+            ("a + b past its end", -512, [2.0 ** -900], 300, 213, Refused(15)),
+            ("a + b far past it", -512, [2.0 ** -1000], 512, 512, Refused(15)),
+            ("from one end of e to the other", 512, [2.0 ** 600], -512, -512, Refused(15)),
+            ("no move at all", 7, [3.0], 0, 0, Moved([3.0], 7))]:
+        for reading in (1, 2):
+            first = move(reading, 1, e, sheet, a, 1)
+            second = move(reading, 1, first.e, first.numbers, b, 1)
+            single = move(reading, 1, e, sheet, a + b, 1)
+            check.equal(what, single, expected)
+            check.true(what, isinstance(second, Moved) and (single == second or single == Refused(15)))
+    check.equal("a first move that is refused", move(1, 1, 0, [2.0 ** 1000], 100, 1), Refused(16))
+    check.equal("where the single one is not", move(1, 1, 0, [2.0 ** 1000], 100 - 200, 1), Moved([2.0 ** 900], -100))
+    zeros = move(1, 2, -100, [0.0, -0.0, -0.0, 5.0], 90, 4)
+    check.equal("signs of zeros", words_of(move(1, 2, zeros.e, zeros.numbers, -30, 4).numbers),
+                words_of(move(1, 2, -100, [0.0, -0.0, -0.0, 5.0], 60, 4).numbers))
+
+
+def sheet_to_commute(rng: random.Random, reading: int, n: int) -> tuple[list[float], int]:
+    """A sheet and a power to move it by: often one for which both tables are in range, or only one of them."""
+    kind = rng.random()
+    if kind < 0.3:
+        sheet = sheet_to_move(rng, reading, n)
+        return sheet, random_power(rng, sheet)
+    if kind < 0.5 and reading == LEAVING_RATES:
+        sheet = uneven_sheet(rng, n)
+    else:
+        sheet = random_sheet(rng, reading, n, random_style(rng, rng.choice([3, 30, 300])))
+    if kind > 0.8 and reading == LEAVING_RATES:
+        sheet = [x if rng.random() < 0.3 else random_zero(rng) for x in sheet]
+    return sheet, rng.choice([-1, 1, -10, 10, rng.randint(-100, 100), rng.randint(-512, 512), random_power(rng, sheet)])
+
+
+def test_random_commuting(check: Checks, rng: random.Random, long: bool) -> None:
+    """Random sheets, moved and moved back: every service on both."""
+    seen = Commuting(BothAccepted(), BothAccepted(), BothAccepted())
+    for at in range(20000 if long else 3000):
+        reading, n = rng.choice([1, 2]), rng.randint(1, 5) if at % 300 else LIMIT
+        sheet, k = sheet_to_commute(rng, reading, n)
+        e = rng.randint(max(-FURTHEST_POWER, -FURTHEST_POWER - k), min(FURTHEST_POWER, FURTHEST_POWER - k))
+        moved = move(reading, n, e, sheet, k, n * n)
+        if isinstance(moved, Moved):
+            check_services(check, rng, reading, n, e, sheet, k, moved, seen)
+            check_services(check, rng, reading, n, moved.e, moved.numbers, -k, Moved(sheet, e), seen)
+    for what, pairs in (("tables", seen.tables), ("columns", seen.columns), ("prices", seen.prices)):
+        check.true(f"{what}: {pairs}", min(pairs.both, pairs.first, pairs.second, pairs.none) > 20)
+
+
 def changed(data: bytes, at: int, form: str, value: int) -> bytes:
     """The bytes with one field changed."""
     field = struct.pack(form, value)
@@ -2318,6 +2455,8 @@ def self_test(long: bool) -> int:
         test_moving_ends(check)
         test_units(check)
         test_moving_units(check)
+        test_commuting_documents(check)
+        test_two_moves(check)
         test_file(check, rng)
         test_units_of_files(check)
         test_saving(check, rng)
@@ -2328,6 +2467,7 @@ def self_test(long: bool) -> int:
         test_random_idle(check, rng, long)
         test_random_prices(check, rng, long)
         test_random_moves(check, rng, long)
+        test_random_commuting(check, rng, long)
     except Failed as failure:
         print(f"FAILED after {check.count} checks: {failure}")
         return 1

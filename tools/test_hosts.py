@@ -17,10 +17,11 @@ import sys
 import tempfile
 import threading
 import unittest
+from collections import Counter
 from pathlib import Path
 from typing import NamedTuple, Optional, Sequence
 
-from fuzz import EXPORTS
+from fuzz import EXPORTS, LAWS
 from hosts import ARCHIVE, CC, HEADER, PLACES, ROOT, TEXT_BYTES, Calls, Library, Told, declared, must, run
 import reference
 from reference import LARGEST, POWERS_OUT_OF_RANGE, UNITS, Moved, Refused, Saved, bits_of, number_of
@@ -731,6 +732,21 @@ class MoveTest(HostTest):
         """NaN patterns of every kind are 6."""
         for word in (0x7ff0000000000001, 0x7ff8000000000000, 0xffffffffffffffff, 0xfff0000000000001):
             self.assertEqual(self.move(1, 1, [number_of(word)], 1), (6, 1, 1))
+
+
+    def test_laws(self) -> None:
+        """A moved sheet has the sheet's numbers divided by the power, and two moves are one; that one sheet is accepted
+        does not say that the other is: E moved by 1 is F."""
+        for reading in (1, 2):
+            self.assertEqual(self.table(reading, 1, [2.0 ** 1021]), (0, 0, 0))
+            self.assertEqual(self.move(reading, 1, [2.0 ** 1021], 1), (0, 0, 0))
+            self.assertEqual(self.calls.left[0], bits_of(2.0 ** 1022))
+            self.assertEqual(self.table(reading, 1, [2.0 ** 1022]), (10, 0, 0))
+        for law, cases in LAWS.values():
+            seen: Counter[str] = Counter()
+            for _ in range(600):
+                law(self.calls, self.rng, seen)
+            self.assertLessEqual(cases, set(seen))
 
 
 class UnitTest(HostTest):

@@ -22,6 +22,8 @@ that does not, and 1 by every k.
 Prices: the questions in order, every fault of a price, the papers' sheets, orders of the sum, zeros of either sign,
 idle stages, each way to leave the range, prices at the edge of it, and random sheets of both readings with every n
 from 1 to 32.
+Moving and the services: sheets moved in two moves and in one, and the table, one column and prices of the sheet and of
+the moved sheet, which are compared before they are written.
 Before an accepted table, column or price is written it is compared with the exact inverse by the accuracy rule.
 """
 from __future__ import annotations
@@ -41,7 +43,7 @@ from reference import (GREATEST_INT64, HEAD, IN_SECONDS, INF, LARGEST, LEAST_INT
                        POWERS_OUT_OF_RANGE, SHEET_ROW, Column, Loaded, Moved, Prices, Refused, Saved, Style, Table,
                        accuracy, among_idle, bits_of, column, column_accuracy, dwell, edge_pair, entry, file_length,
                        load, make_file, make_head, make_rows, make_short_file, make_short_file_words, make_short_head,
-                       move, number_of, price_accuracy, price_edge_pair, random_prices, random_sheet, random_size,
+                       move, moved_number, number_of, price_accuracy, price_edge_pair, random_prices, random_sheet, random_size,
                        random_style, range_facts, record, request_prices, save, sheet_parts, sheet_to_move, table,
                        table_of_stream, uneven_sheet, word_of)
 
@@ -682,6 +684,69 @@ def prices(rng: random.Random) -> Iterator[Case]:
 
 # ==== Files ====
 
+# ==== Moving and the services (document 02, U9) ====
+
+def sheets_to_commute(rng: random.Random) -> Iterator[tuple[Sheet, int]]:
+    """Sheets with the power that each is moved by: E, which becomes F, and F, which becomes E; P, H and I; a sheet with
+    an idle stage; and random ones of both readings that are accepted before and after."""
+    yield (1, 1, [2.0 ** 1021]), 1
+    yield (2, 1, [2.0 ** 1022]), -1
+    yield (1, 2, P_SHEET), -10
+    yield (2, 2, [3.0, -1.0, -4.0, 1.0]), 3
+    yield (2, 2, [2.0, -0.0, -1.0, 4.0]), -512
+    yield (1, 3, [2.0, -0.0, -1.0, 0.0, -0.0, 0.0, 0.0, -0.0, 4.0]), 500
+    for at, (reading, n) in enumerate([(1, 3), (2, 4), (1, 8), (2, 8), (2, 16)]):
+        reading, n, sheet = accepted_sheet(rng, reading, n, STYLES[at])
+        while True:
+            k = rng.choice([-1, 1]) * rng.randint(1, 400)
+            moved = move(reading, n, IN_SECONDS, sheet, k, n * n)
+            if isinstance(moved, Moved) and accepted((reading, n, moved.numbers)):
+                break
+        yield (reading, n, sheet), k
+
+
+def in_two_moves(rng: random.Random, sheet: Sheet, k: int) -> Iterator[Case]:
+    """A sheet moved by one power, and what that leaves by another; then by k, the sum of the two, in an area that holds
+    the same before."""
+    reading, n, numbers = sheet
+    while True:
+        a = rng.randint(max(-512, k - 512), min(512, k + 512))
+        first = move(reading, n, IN_SECONDS, numbers, a, n * n)
+        if isinstance(first, Moved):
+            break
+    second, single = move(reading, n, a, first.numbers, k - a, n * n), move(reading, n, IN_SECONDS, numbers, k, n * n)
+    if second != single:
+        raise ArithmeticError(f"{sheet} by 2^{a} and then by 2^{k - a} is not {sheet} by 2^{k}")
+    yield move_case(reading, n, IN_SECONDS, numbers, a, n * n + 2)
+    yield move_case(reading, n, a, first.numbers, k - a, n * n + 2)
+    yield move_case(reading, n, IN_SECONDS, numbers, k, n * n + 2)
+
+
+def same_but_for_the_power(k: int, first: Union[Table, Column, Prices, Refused],
+                           second: Union[Table, Column, Prices, Refused]) -> None:
+    """What a service gives for a sheet and for the sheet moved by 2^k, if it accepts both."""
+    if not isinstance(first, Refused) and not isinstance(second, Refused):
+        if [bits_of(x) for x in second.entries] != [bits_of(moved_number(x, -k)) for x in first.entries]:
+            raise ArithmeticError(f"{second} is not {first} divided by 2^{k}")
+
+
+def commuting(rng: random.Random) -> Iterator[Case]:
+    """These sheets, moved in two moves and in one, and the table, one column and prices before and after."""
+    for (reading, n, sheet), k in sheets_to_commute(rng):
+        yield from in_two_moves(rng, (reading, n, sheet), k)
+        moved = move(reading, n, IN_SECONDS, sheet, k, n * n)
+        stage, prices = rng.randint(1, n), random_prices(rng, n)
+        pairs = [(table(reading, n, e, numbers, n * n), column(reading, n, e, numbers, stage, n),
+                  request_prices(reading, n, e, numbers, prices, n))
+                 for e, numbers in ((IN_SECONDS, sheet), (moved.e, moved.numbers))]
+        for first, second in zip(*pairs):
+            same_but_for_the_power(k, first, second)
+        for e, numbers in ((IN_SECONDS, sheet), (moved.e, moved.numbers)):
+            yield table_case(reading, n, e, numbers, n * n + 1)
+            yield column_case(reading, n, e, numbers, stage, n)
+            yield price_case(reading, n, e, numbers, prices, n)
+
+
 def changed(data: bytes, at: int, new: bytes) -> bytes:
     """The file with these bytes in the place of its own."""
     return data[:at] + new + data[at + len(new):]
@@ -715,7 +780,8 @@ def cases() -> list[Case]:
     one_nan = make_short_file_words(2, 1, [0xFFF4000012345678])
     return [*(dwell_case(data) for data in inputs()), *calls(), *damaged(make_file(1, 2, -10, P_SHEET), 2, 5),
             *damaged(one_nan, 1, 5), *heads(), *saves(random.Random(20260202)), *columns(random.Random(20260303)),
-            *idle_stages(random.Random(20260404)), *moves(random.Random(20260505)), *prices(random.Random(20260606))]
+            *idle_stages(random.Random(20260404)), *moves(random.Random(20260505)), *prices(random.Random(20260606)),
+            *commuting(random.Random(20260707))]
 
 
 def main(arguments: list[str]) -> int:

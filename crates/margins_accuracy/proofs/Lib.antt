@@ -3,7 +3,7 @@ mod MarginsEntries
 mod MarginsExact
 mod MarginsJoins
 mod MarginsKept
-mod MarginsRange
+pub mod MarginsRange
 mod MarginsRatios
 mod MarginsStart
 mod MarginsSums

@@ -1,9 +1,9 @@
 pub mod OperationErrors
 mod PivotErrors
 pub mod LeavingRatesRange
-mod LeavingRatesStages
+pub mod LeavingRatesStages
 mod LeavingRatesColumn
-mod LeavingRatesUpward
+pub mod LeavingRatesUpward
 pub mod LeavingRatesAccuracy
 pub mod Pivots
 pub mod Input

@@ -2,15 +2,15 @@
 use mathlib.Core.Path.{_≡_, sym, ap, ap₂, _∙_}
 use mathlib.Core.Logic.{inl, inr}
 use Prim.Native.Nat.{ℕ, _+_, _*_, _^_, _<_}
-use native.Mathlib.Nat.{zero-mul, mul-zero, mul-pos, mul-one, mul-assoc, eq-of-mul-eq-mul-right, mul-mul-mul-comm, lt-irrefl}
-use lib.Pow.{pow-add, pow-pos}
+use native.Mathlib.Nat.{zero-mul, mul-zero, mul-pos, mul-one, mul-mul-mul-comm, lt-irrefl}
+use lib.Pow.{pow-pos}
 use lib.Ieee.{Float, binary64}
 use Rattle.definitions.specs.Numbers.{_⊗_, _⊘_, 0·0, units}
 use Rattle.rounding.specs.Good.{Good}
 use Rattle.rounding.specs.Scaling.{Scaled, SumScales, ProductScales, DividendScales, DivisorScales, QuotientOfScaled}
 use Rattle.rounding.proofs.Value.{amount}
 use Rattle.rounding.proofs.Operations.{add-good, mul-good, div-good, mul-of-zero, div-of-zero, divisor-pos}
-use Rattle.rounding.proofs.Laws.{units-is, unique-units, units-zero, in-scale, sum-in-range, product-good, quotient-good, product-cases, quotient-cases, zero-amount-of, above-amount}
+use Rattle.rounding.proofs.Laws.{units-is, units-zero, in-scale, sum-in-range, product-good, quotient-good, product-cases, quotient-cases, zero-amount-of, above-amount}
 use Rattle.rounding.proofs.Powers.{add-unscaled-finite, add-scaled, div-alike, mul-scaled, dividend-scaled, divisor-scaled}
 
 amounts : {k : ℕ} {x x' : Float} → Scaled k x x' → amount binary64 x' ≡ amount binary64 x * 2 ^ k
@@ -19,22 +19,11 @@ amounts {k} {x} {x'} s = rw (units-is x', units-is x) at (s .by)
 scaled : {k : ℕ} {x x' : Float} → Good x → Good x' → amount binary64 x' ≡ amount binary64 x * 2 ^ k → Scaled k x x'
 scaled {k} {x} {x'} g h e = record { from = g; to = h; by = rw (units-is x', units-is x) e }
 
--- ---- Scaled as a relation
-pub scaled-same : {k : ℕ} {x a b : Float} → Scaled k x a → Scaled k x b → a ≡ b
-scaled-same s r = unique-units (s .to) (r .to) (s .by ∙ sym (r .by))
-
-pub scaled-back : {k : ℕ} {a b x : Float} → Scaled k a x → Scaled k b x → a ≡ b
-scaled-back {k} {a} {b} s r = unique-units (s .from) (r .from) (eq-of-mul-eq-mul-right (2 ^ k) (pow-pos k) (units a) (units b) (sym (s .by) ∙ r .by))
-
 pub scaled-none : {x : Float} → Good x → Scaled 0 x x
 scaled-none {x} g = record { from = g; to = g; by = sym (mul-one (units x)) }
 
-pub scaled-then : {j k : ℕ} {x y z : Float} → Scaled j x y → Scaled k y z → Scaled (j + k) x z
-scaled-then {j} {k} {x} s r =
-    record { from = s .from; to = r .to; by = r .by ∙ ap (λ (a : ℕ). a * 2 ^ k) (s .by) ∙ mul-assoc (units x) (2 ^ j) (2 ^ k) ∙ ap (λ (a : ℕ). units x * a) (sym (pow-add 2 j k)) }
-
 -- both zero
-scaled-zero : (k : ℕ) (x x' : Float) → Good x → Good x' → x ≡ 0·0 → x' ≡ 0·0 → Scaled k x x'
+pub scaled-zero : (k : ℕ) (x x' : Float) → Good x → Good x' → x ≡ 0·0 → x' ≡ 0·0 → Scaled k x x'
 scaled-zero k x x' g h p q = record { from = g; to = h; by = ap units q ∙ units-zero ∙ sym (ap (λ (a : ℕ). a * 2 ^ k) (ap units p ∙ units-zero) ∙ zero-mul (2 ^ k)) }
 
 pub sum-scales : SumScales

@@ -5,7 +5,7 @@ use Prim.Native.Nat.{ℕ, zero, suc, _+_, _-_, _*_, _%_, _^_, _≤_, _<_}
 use native.Mathlib.Nat.{le-refl, le-trans, le-mul-of-pos-right, le-of-eq, le-of-suc-le-suc, lt-of-not-le, mul-mod-left, lt-of-le-of-lt, lt-of-lt-of-le, mul-lt-mul-of-pos-right, lt-of-mul-lt-mul-right, mul-assoc, mul-comm, mul-one, one-mul, zero-mul, mul-pos, add-mul, eq-of-mul-eq-mul-right, zero-lt-suc}
 use native.Mathlib.Omega.{arith}
 use mathlib.Core.Bool.{Bool, true, false, not, _&&_, _||_, cond, Bool·beq}
-use lib.IntN.{ℤ, pos, negsuc, negℤ, subℕ, _+ℤ_, +ℤ-assoc, +ℤ-idr, +ℤ-invl}
+use lib.IntN.{ℤ, pos, negsuc, negℤ, subℕ, _+ℤ_, +ℤ-assoc, +ℤ-idr, +ℤ-invl, +ℤ-invr}
 use lib.Dec.{T, ltb, eqb, ltb→lt, nltb→le}
 use lib.Pow.{pow-add, pow-pos, pow-mono}
 use lib.Ieee.{Float, nan, inf, fin, binary64, emax, low, up, down, unlike, round, mul, div, neg, below, level, lt, eq, le, fits}
@@ -13,7 +13,7 @@ use lib.Ieee.Fits.{up-pos, down-pos}
 use Rattle.definitions.specs.Numbers.{_⊗_, _⊘_, 0·0, finite, isZero, units}
 use Rattle.definitions.specs.Moving.{timesPower}
 use Rattle.rounding.specs.Good.{Good}
-use Rattle.rounding.specs.Scaling.{Scaled, power, negative, TimesByValue, TimesPowerByValue, ProductWithPower, QuotientByPower, TimesPowerTwice, TimesPowerKeepsOrder, TimesPowerScales, ScaledIsTimesPower}
+use Rattle.rounding.specs.Scaling.{Scaled, power, negative, TimesByValue, TimesPowerByValue, ProductWithPower, QuotientByPower, TimesPowerTwice, TimesPowerKeepsOrder, ScaledIsTimesPower}
 use Rattle.rounding.proofs.Value.{amount, amount-of-value, fit, tests, refit, by-parts, held-value, held-lt, held-unique}
 use Rattle.rounding.proofs.Round.{round-held}
 use Rattle.rounding.proofs.Laws.{units-is, good-finite}
@@ -231,6 +231,9 @@ times-none (fin s (suc m) e) = ap (fin s (suc m)) (+ℤ-idr e)
 pub times-back : (k : ℤ) (x : Float) → timesPower k (timesPower (negℤ k) x) ≡ x
 times-back k x = times-power-twice (negℤ k) k x ∙ ap (λ (z : ℤ). timesPower z x) (+ℤ-invl k) ∙ times-none x
 
+pub times-forth : (k : ℤ) (x : Float) → timesPower (negℤ k) (timesPower k x) ≡ x
+times-forth k x = times-power-twice k (negℤ k) x ∙ ap (λ (z : ℤ). timesPower z x) (+ℤ-invr k) ∙ times-none x
+
 pub times-neg : (k : ℤ) (x : Float) → neg (timesPower k x) ≡ timesPower k (neg x)
 unfolding timesPower neg
 times-neg k nan = refl
@@ -306,19 +309,6 @@ pub times-is-zero : (k : ℤ) (x : Float) → isZero (timesPower k x) ≡ isZero
 unfolding isZero timesPower
 times-is-zero k x = times-eq k x 0·0
 
--- ---- good numbers: `Scaled`
-times-good : (k : ℤ) (x : Float) → Good x → T (fits binary64 (timesPower k x)) → Good (timesPower k x)
-times-good k = by-parts binary64 (λ x. T (fits binary64 (timesPower k x)) → Good (timesPower k x))
-    (λ m e g. by-times (λ y. T (fits binary64 y) → Good y) k false m e (λ m' e' p t. record { plus = tt; held = t }))
-
-pub times-power-scales : TimesPowerScales
-times-power-scales k x g t =
-    record {
-      from = g;
-      to = times-good (pos k) x g t;
-      by = sym (mul-one (units (timesPower (pos k) x))) ∙ times-power-by-value (pos k) x (good-finite g) (g .held) .0 t .size;
-    }
-
 -- More of 2^k leaves no more below the point.
 pub shallower : (e : ℤ) (k : ℕ) → down (e +ℤ pos k) ≤ down e
 shallower (pos a) k = le-refl 1
@@ -331,6 +321,7 @@ shallower (negsuc a) k = either (ltb k (suc a))
     either true = pow-mono (less a k)
     either false = pow-pos (suc a)
 
+-- ---- good numbers: `Scaled`
 good-plus : (x : Float) → Good x → negative x ≡ false
 good-plus = by-parts binary64 (λ x. negative x ≡ false) (λ m e g. refl)
 
@@ -377,17 +368,16 @@ held-between x j l h g t =
     held-below (l - j) j x g (rw (times-power-twice (pos j) (pos (l - j)) x, whole) t)
 
 -- ---- sizes: a sheet's rates are negative, and a zero of either sign counts as plus zero
--- The size of a moved number is the moved size.
-pub size-times : (k : ℤ) (x : Float) {y y' : Float} → T (finite x) → T (fits binary64 x) → T (fits binary64 (timesPower k x))
-    → IsSize x y → IsSize (timesPower k x) y' → y' ≡ timesPower k y
-size-times k x {y} {y'} f g t s s' =
-    times-power-by-value k y (good-finite (s .good)) (s .good .held) .1 y'
+-- The size of a number times 2^c is its size times 2^c.
+pub size-scaled : (c : ℕ) (x : Float) {y y' : Float} → T (finite x) → T (fits binary64 x) → T (fits binary64 (timesPower (pos c) x))
+    → IsSize x y → IsSize (timesPower (pos c) x) y' → Scaled c y y'
+size-scaled c x f g t s s' =
     record {
-      is-finite = good-finite (s' .good);
-      held = s' .good .held;
-      sign = good-plus y' (s' .good) ∙ sym (good-plus y (s .good));
-      size =
-          ap (λ (a : ℕ). a * down k) (s' .same)
-          ∙ times-power-by-value k x f g .0 t .size
-          ∙ ap (λ (a : ℕ). a * up k) (sym (s .same));
+      from = s .good;
+      to = s' .good;
+      by =
+          s' .same
+          ∙ sym (mul-one (units (timesPower (pos c) x)))
+          ∙ times-power-by-value (pos c) x f g .0 t .size
+          ∙ ap (λ (a : ℕ). a * 2 ^ c) (sym (s .same));
     }

@@ -53,10 +53,7 @@ TimesPowerTwice = (a b : ℤ) (x : Float) → timesPower b (timesPower a x) ≡ 
 abbrev pub TimesPowerKeepsOrder : Type 0
 TimesPowerKeepsOrder = (k : ℤ) (x y : Float) → le (timesPower k x) (timesPower k y) ≡ le x y
 
--- For good numbers it is `Scaled`, both ways.
-abbrev pub TimesPowerScales : Type 0
-TimesPowerScales = (k : ℕ) (x : Float) → Good x → T (fits binary64 (timesPower (pos k) x)) → Scaled k x (timesPower (pos k) x)
-
+-- For good numbers `Scaled` says the same.
 abbrev pub ScaledIsTimesPower : Type 0
 ScaledIsTimesPower = (k : ℕ) (x x' : Float) → Scaled k x x' → x' ≡ timesPower (pos k) x
 

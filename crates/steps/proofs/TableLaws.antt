@@ -3,7 +3,7 @@ use Prim.Native.Nat.{ℕ, zero, suc, _+_, _*_, _<_}
 use native.Mathlib.Nat.{suc-mul, zero-mul, mul-le-mul-right}
 use native.Mathlib.Numerals.{add-one}
 use native.Mathlib.Omega.{arith}
-use mathlib.Core.List.{List, [], _∷_, _++_}
+use mathlib.Core.List.{List, [], _∷_, _++_, map, map-append}
 use mathlib.Core.Path.{_≡_, refl, sym, ap, _∙_, ap₂}
 use lib.ListN.{length, getD, length-append, List·getD-append}
 use lib.Seq.{getD-at, getD-append-add}
@@ -63,6 +63,17 @@ module _ {A : Type 0} where
   rows-same f g n zero e = refl
   rows-same f g n (suc m) e =
       ap₂ (λ xs ys. xs ++ ys) (rows-same f g n m (λ i j l k. e i j (omega arith) k)) (list-same (f m) (g m) n (λ j l. e m j (omega arith) l))
+
+  -- A function at each number.
+  pub list-map : (change : A → A) (f : ℕ → A) (n : ℕ) → map change (list f n) ≡ list (λ j. change (f j)) n
+  unfolding list
+  list-map change f zero = refl
+  list-map change f (suc n) = map-append change (list f n) (f n ∷ []) ∙ ap (λ xs. xs ++ (change (f n) ∷ [])) (list-map change f n)
+
+  pub rows-map : (change : A → A) (f : ℕ → ℕ → A) (n m : ℕ) → map change (rows f n m) ≡ rows (λ i j. change (f i j)) n m
+  unfolding rows
+  rows-map change f n zero = refl
+  rows-map change f n (suc m) = map-append change (rows f n m) (list (f m) n) ∙ ap₂ (λ xs ys. xs ++ ys) (rows-map change f n m) (list-map change (f m) n)
 
   pub stored-at : (other : A) (n : ℕ) (f : ℕ → A) (i : ℕ) → i < n → stored other n f i ≡ f i
   unfolding stored

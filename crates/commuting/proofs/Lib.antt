@@ -1,0 +1,7 @@
+mod Moves
+mod LargerSheet
+mod LargerTable
+mod LargerPrices
+pub mod Commuting
+pub mod TwoMoves
+pub mod CommutingExamples
