@@ -444,11 +444,6 @@ def agree(got: object, due: object, what: str) -> None:
         raise Difference(f"{what}: {got} where {due} is due")
 
 
-def times_back(words: Sequence[int], k: int) -> list[int]:
-    """Numbers of a table, each divided by 2^k, by their bits: plus zero stays, and else the exponent is less by k."""
-    return [word and word - (k << 52) for word in words]
-
-
 def unit_from(rng: random.Random, *moves: int) -> int:
     """An e from which each of these moves, one after another, stays in the range of e, if there is one."""
     far = [sum(moves[:count]) for count in range(len(moves) + 1)]
@@ -464,7 +459,7 @@ def same_times_back(service: str, k: int, numbers: int, seen: Counter[str], firs
     seen[f"{service}: " + ("both accepted" if all(accepted) else "one alone" if any(accepted) else "none")] += 1
     if all(accepted):
         (_, before), (_, after) = first, second
-        agree(list(after[:numbers]), times_back(before[:numbers], k), f"{service} of the moved sheet")
+        agree(list(after[:numbers]), reference.divided(before[:numbers], k), f"{service} of the moved sheet")
         agree(after[numbers:], before[numbers:], f"allowance of the {service}")
 
 

@@ -17,6 +17,7 @@ import re
 import struct
 import sys
 import time
+from collections import Counter
 from dataclasses import dataclass
 from fractions import Fraction
 from typing import Callable, Iterable, Optional, Sequence, TypeVar, Union
@@ -1025,6 +1026,21 @@ def random_power(rng: random.Random, sheet: Sequence[float]) -> int:
     return rng.choice(near) if near and rng.random() < 0.6 else rng.randint(-FURTHEST_POWER, FURTHEST_POWER)
 
 
+def sheet_to_commute(rng: random.Random, reading: int, n: int) -> tuple[list[float], int]:
+    """A sheet and a power to move it by: often one for which both tables are in range, or only one of them."""
+    kind = rng.random()
+    if kind < 0.3:
+        sheet = sheet_to_move(rng, reading, n)
+        return sheet, random_power(rng, sheet)
+    if kind < 0.5 and reading == LEAVING_RATES:
+        sheet = uneven_sheet(rng, n)
+    else:
+        sheet = random_sheet(rng, reading, n, random_style(rng, rng.choice([3, 30, 300])))
+    if kind > 0.8 and reading == LEAVING_RATES:
+        sheet = [x if rng.random() < 0.3 else random_zero(rng) for x in sheet]
+    return sheet, rng.choice([-1, 1, -10, 10, rng.randint(-100, 100), rng.randint(-512, 512), random_power(rng, sheet)])
+
+
 def random_prices(rng: random.Random, n: int) -> list[float]:
     """Prices that question 19 passes: about 1 or about some other power of two, often one at an end of the range, near
     to one another or far apart, some of them zeros of either sign."""
@@ -2003,69 +2019,44 @@ def test_random_moves(check: Checks, rng: random.Random, long: bool) -> None:
     check.true(f"{moved} sheets moved, {further} again, {refused} refused", min(moved, further, refused) > 100)
 
 
-# ==== Moving and the table (02, U9) ====
-
-@dataclass
-class BothAccepted:
-    """Of pairs of calls, on a sheet and on the same sheet moved: how often both were accepted, one alone, or none."""
-    both: int = 0
-    first: int = 0
-    second: int = 0
-    none: int = 0
-
-    def add(self, first: bool, second: bool) -> bool:
-        """Counts a pair; whether both were accepted."""
-        self.both += first and second
-        self.first += first and not second
-        self.second += second and not first
-        self.none += not (first or second)
-        return first and second
-
-
-def divided_bits(entries: Sequence[float], k: int) -> list[int]:
-    """The bits of numbers of a table, each divided by 2^k: the exponent field, minus k, is one of a number above
-    2^-1022."""
-    words = [bits_of(x) for x in entries]
+def divided(words: Sequence[int], k: int) -> list[int]:
+    """Numbers of a table, each divided by 2^k, all by their bits (02, U9): plus zero stays, and else the exponent field
+    is less by k, and still one of a finite number that is at least 2^-1022."""
     if not all(word == 0 or 1 <= (word >> 52) - k <= 0x7fe for word in words):
-        raise Failed(f"a number of {entries} divided by 2^{k} is out of range")
+        raise ArithmeticError(f"a number of {words} divided by 2^{k} is out of range")
     return [word and word - (k << 52) for word in words]
 
 
-def check_commutes(check: Checks, what: str, k: int, got: Union[Table, Column, Prices, Refused],
-                   moved: Union[Table, Column, Prices, Refused], seen: BothAccepted) -> None:
+def check_commutes(check: Checks, service: str, k: int, got: Union[Table, Column, Prices, Refused],
+                   moved: Union[Table, Column, Prices, Refused], seen: Counter[tuple[str, bool, bool]]) -> None:
     """Two calls of a service, on a sheet and on that sheet moved by 2^k.  If both are accepted, the second has the
-    numbers of the first divided by 2^k, and the same allowance."""
-    if seen.add(not isinstance(got, Refused), not isinstance(moved, Refused)):
-        check.equal(f"{what}, moved by 2^{k}", [bits_of(x) for x in moved.entries], divided_bits(got.entries, k))
-        check.equal(f"{what}, allowance", moved.allowance, got.allowance)
-    else:
-        out = [answer for answer in (got, moved) if isinstance(answer, Refused)]
-        check.true(f"{what}, moved by 2^{k}: {out}", len(out) == 2 or out[0].number == 10)
-
-
-@dataclass
-class Commuting:
-    """What came up in `check_services`: pairs of tables, of columns and of prices."""
-    tables: BothAccepted
-    columns: BothAccepted
-    prices: BothAccepted
+    numbers of the first divided by 2^k, and the same allowance.  Which of the two were accepted is counted."""
+    accepted = not isinstance(got, Refused), not isinstance(moved, Refused)
+    seen[(service, *accepted)] += 1
+    if all(accepted):
+        check.equal(f"{service}, moved by 2^{k}", [bits_of(x) for x in moved.entries],
+                    divided([bits_of(x) for x in got.entries], k))
+        check.equal(f"{service}, allowance", moved.allowance, got.allowance)
+    elif any(accepted):
+        refused = moved if accepted[0] else got
+        check.equal(f"{service}, moved by 2^{k}, one alone", refused, Refused(10))
 
 
 def check_services(check: Checks, rng: random.Random, reading: int, n: int, e: int, sheet: Sequence[float], k: int,
-                   moved: Moved, seen: Commuting) -> None:
+                   moved: Moved, seen: Counter[tuple[str, bool, bool]]) -> None:
     """Every service on a sheet and on that sheet moved by 2^k."""
-    first, second = table(reading, n, e, sheet, n * n), table(reading, n, moved.e, moved.numbers, n * n)
-    check_commutes(check, f"table of {sheet}", k, first, second, seen.tables)
+    check_commutes(check, "table", k, table(reading, n, e, sheet, n * n),
+                   table(reading, n, moved.e, moved.numbers, n * n), seen)
     i, j = rng.randint(1, n), rng.randint(1, n)
     one, other = entry(reading, n, e, sheet, i, j), entry(reading, n, moved.e, moved.numbers, i, j)
     if isinstance(one, Seconds) and isinstance(other, Seconds):
-        check.equal(f"entry of {sheet}", [bits_of(other.value)], divided_bits([one.value], k))
+        check.equal(f"entry of {sheet}", [bits_of(other.value)], divided([bits_of(one.value)], k))
     prices = random_prices(rng, n)
-    check_commutes(check, f"prices of {sheet}, {prices}", k, request_prices(reading, n, e, sheet, prices, n),
-                   request_prices(reading, n, moved.e, moved.numbers, prices, n), seen.prices)
+    check_commutes(check, "prices", k, request_prices(reading, n, e, sheet, prices, n),
+                   request_prices(reading, n, moved.e, moved.numbers, prices, n), seen)
     if reading == LEAVING_RATES:
-        check_commutes(check, f"column {j} of {sheet}", k, column(1, n, e, sheet, j, n),
-                       column(1, n, moved.e, moved.numbers, j, n), seen.columns)
+        check_commutes(check, "column", k, column(1, n, e, sheet, j, n),
+                       column(1, n, moved.e, moved.numbers, j, n), seen)
 
 
 def test_commuting_documents(check: Checks) -> None:
@@ -2110,24 +2101,9 @@ def test_two_moves(check: Checks) -> None:
                 words_of(move(1, 2, -100, [0.0, -0.0, -0.0, 5.0], 60, 4).numbers))
 
 
-def sheet_to_commute(rng: random.Random, reading: int, n: int) -> tuple[list[float], int]:
-    """A sheet and a power to move it by: often one for which both tables are in range, or only one of them."""
-    kind = rng.random()
-    if kind < 0.3:
-        sheet = sheet_to_move(rng, reading, n)
-        return sheet, random_power(rng, sheet)
-    if kind < 0.5 and reading == LEAVING_RATES:
-        sheet = uneven_sheet(rng, n)
-    else:
-        sheet = random_sheet(rng, reading, n, random_style(rng, rng.choice([3, 30, 300])))
-    if kind > 0.8 and reading == LEAVING_RATES:
-        sheet = [x if rng.random() < 0.3 else random_zero(rng) for x in sheet]
-    return sheet, rng.choice([-1, 1, -10, 10, rng.randint(-100, 100), rng.randint(-512, 512), random_power(rng, sheet)])
-
-
 def test_random_commuting(check: Checks, rng: random.Random, long: bool) -> None:
     """Random sheets, moved and moved back: every service on both."""
-    seen = Commuting(BothAccepted(), BothAccepted(), BothAccepted())
+    seen: Counter[tuple[str, bool, bool]] = Counter()
     for at in range(20000 if long else 3000):
         reading, n = rng.choice([1, 2]), rng.randint(1, 5) if at % 300 else LIMIT
         sheet, k = sheet_to_commute(rng, reading, n)
@@ -2136,8 +2112,8 @@ def test_random_commuting(check: Checks, rng: random.Random, long: bool) -> None
         if isinstance(moved, Moved):
             check_services(check, rng, reading, n, e, sheet, k, moved, seen)
             check_services(check, rng, reading, n, moved.e, moved.numbers, -k, Moved(sheet, e), seen)
-    for what, pairs in (("tables", seen.tables), ("columns", seen.columns), ("prices", seen.prices)):
-        check.true(f"{what}: {pairs}", min(pairs.both, pairs.first, pairs.second, pairs.none) > 20)
+    for case in itertools.product(("table", "column", "prices"), (False, True), (False, True)):
+        check.true(f"{case}: {seen[case]}", seen[case] > 20)
 
 
 def changed(data: bytes, at: int, form: str, value: int) -> bytes:

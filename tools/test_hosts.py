@@ -733,7 +733,6 @@ class MoveTest(HostTest):
         for word in (0x7ff0000000000001, 0x7ff8000000000000, 0xffffffffffffffff, 0xfff0000000000001):
             self.assertEqual(self.move(1, 1, [number_of(word)], 1), (6, 1, 1))
 
-
     def test_laws(self) -> None:
         """A moved sheet has the sheet's numbers divided by the power, and two moves are one; that one sheet is accepted
         does not say that the other is: E moved by 1 is F."""

@@ -41,11 +41,11 @@ sys.dont_write_bytecode = True
 
 from reference import (GREATEST_INT64, HEAD, IN_SECONDS, INF, LARGEST, LEAST_INT64, LIMIT, NAN, P_SHEET,  # noqa: E402
                        POWERS_OUT_OF_RANGE, SHEET_ROW, Column, Loaded, Moved, Prices, Refused, Saved, Style, Table,
-                       accuracy, among_idle, bits_of, column, column_accuracy, dwell, edge_pair, entry, file_length,
-                       load, make_file, make_head, make_rows, make_short_file, make_short_file_words, make_short_head,
-                       move, moved_number, number_of, price_accuracy, price_edge_pair, random_prices, random_sheet, random_size,
-                       random_style, range_facts, record, request_prices, save, sheet_parts, sheet_to_move, table,
-                       table_of_stream, uneven_sheet, word_of)
+                       accuracy, among_idle, bits_of, column, column_accuracy, divided, dwell, edge_pair, entry,
+                       file_length, load, make_file, make_head, make_rows, make_short_file, make_short_file_words,
+                       make_short_head, move, number_of, price_accuracy, price_edge_pair, random_prices, random_sheet,
+                       random_size, random_style, range_facts, record, request_prices, save, sheet_parts,
+                       sheet_to_move, table, table_of_stream, uneven_sheet, word_of)
 
 Sheet = tuple[int, int, list[float]]  # reading, n, numbers
 
@@ -682,8 +682,6 @@ def prices(rng: random.Random) -> Iterator[Case]:
             edges += 1
 
 
-# ==== Files ====
-
 # ==== Moving and the services (document 02, U9) ====
 
 def sheets_to_commute(rng: random.Random) -> Iterator[tuple[Sheet, int]]:
@@ -726,7 +724,7 @@ def same_but_for_the_power(k: int, first: Union[Table, Column, Prices, Refused],
                            second: Union[Table, Column, Prices, Refused]) -> None:
     """What a service gives for a sheet and for the sheet moved by 2^k, if it accepts both."""
     if not isinstance(first, Refused) and not isinstance(second, Refused):
-        if [bits_of(x) for x in second.entries] != [bits_of(moved_number(x, -k)) for x in first.entries]:
+        if [bits_of(x) for x in second.entries] != divided([bits_of(x) for x in first.entries], k):
             raise ArithmeticError(f"{second} is not {first} divided by 2^{k}")
 
 
@@ -746,6 +744,8 @@ def commuting(rng: random.Random) -> Iterator[Case]:
             yield column_case(reading, n, e, numbers, stage, n)
             yield price_case(reading, n, e, numbers, prices, n)
 
+
+# ==== Files ====
 
 def changed(data: bytes, at: int, new: bytes) -> bytes:
     """The file with these bytes in the place of its own."""

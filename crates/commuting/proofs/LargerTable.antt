@@ -51,7 +51,7 @@ module _ {c n : ℕ} {sheet big : List Float} (l : Larger c 1 n sheet big) where
             (larger-diagonal l (stage on n p) (listed on n p bp .below)));
       }
 
-  -- What is in range for the larger sheet, by the same count of stages.
+  -- As the stages begin, both by the one count of stages.
   abbrev at : ℕ → System
   at = downward r (liveSystem n sheet)
 

@@ -23,8 +23,8 @@ use Rattle.shape.proofs.Square.{every-number}
 use Rattle.shape.proofs.ShapeQuestions.{shape-passed}
 use Rattle.commuting.specs.Commuting.{Moved}
 
--- Each question of a move, but for 4.
-pub record Asked (reading n : ℕ) (e : ℤ) (sheet : List Float) (k : ℤ) : Type 0 where
+-- A move that passed its questions: what each of them says, but for 4.
+pub record PassedMove (reading n : ℕ) (e : ℤ) (sheet : List Float) (k : ℤ) : Type 0 where
   pub shape : shapeQuestions reading n e (length sheet) ≡ pass
   pub places : placeQuestions reading n sheet ≡ pass
   pub exponent : T (exponentInRange k)
@@ -32,9 +32,9 @@ pub record Asked (reading n : ℕ) (e : ℤ) (sheet : List Float) (k : ℤ) : Ty
   pub room : T (sheetHasRoom k sheet)
 
 module _ (reading n : ℕ) (e : ℤ) (sheet : List Float) (k : ℤ) where
-  pub asked-all : (room : ℕ) → moveQuestions reading n e sheet k room ≡ pass → Asked reading n e sheet k
+  pub move-passed : (room : ℕ) → moveQuestions reading n e sheet k room ≡ pass → PassedMove reading n e sheet k
   unfolding moveQuestions moveInput question15 question17 question16
-  asked-all room q =
+  move-passed room q =
       let shape = shapeQuestions reading n e (length sheet) in
       let places = placeQuestions reading n sheet in
       let input = moveInput reading n e sheet room in
@@ -50,9 +50,9 @@ module _ (reading n : ℕ) (e : ℤ) (sheet : List Float) (k : ℤ) where
         room = ask-yes (sheetHasRoom k sheet) 16 0 0 (then-next (question17 e k) (question16 k sheet) later);
       }
 
-  pub all-asked : (room : ℕ) → Asked reading n e sheet k → n * n ≤ room → moveQuestions reading n e sheet k room ≡ pass
+  pub passes-again : (room : ℕ) → PassedMove reading n e sheet k → n * n ≤ room → moveQuestions reading n e sheet k room ≡ pass
   unfolding moveQuestions moveInput question4 question15 question17 question16
-  all-asked room a h =
+  passes-again room a h =
       rw (a .shape, le-leb (n * n) room h, a .places, is-true (exponentInRange k) (a .exponent), is-true (exponentInRange (e +ℤ k)) (a .unit), is-true (sheetHasRoom k sheet) (a .room))
 
 module _ {reading n : ℕ} {e : ℤ} {sheet : List Float} {k e' : ℤ} {sheet' : List Float} (m : Moved reading n e sheet k e' sheet') where
@@ -60,15 +60,15 @@ module _ {reading n : ℕ} {e : ℤ} {sheet : List Float} {k e' : ℤ} {sheet' :
   unfolding moveAnswer
   passes = given-passes (moveQuestions reading n e sheet k (length (m .area))) e' (e +ℤ k) (sym (m .answered))
 
-  pub asked : Asked reading n e sheet k
-  asked = asked-all reading n e sheet k (length (m .area)) passes
+  pub passed : PassedMove reading n e sheet k
+  passed = move-passed reading n e sheet k (length (m .area)) passes
 
   pub unit-is : e' ≡ e +ℤ k
   unfolding moveAnswer
   unit-is = given-is (moveQuestions reading n e sheet k (length (m .area))) e' (e +ℤ k) (sym (m .answered))
 
   square : Square n sheet
-  square = shape-passed reading n e sheet pass (rw (asked .shape)) .0
+  square = shape-passed reading n e sheet pass (rw (passed .shape)) .0
 
   pub sheet-is : sheet' ≡ movedSheet k sheet
   unfolding movedArea movedSheet
@@ -87,8 +87,8 @@ module _ {reading n : ℕ} {e : ℤ} {sheet : List Float} {k e' : ℤ} {sheet' :
     where
       go : Dec (at < length sheet) → T (fits binary64 (timesPower k (getD sheet at nan)))
       go (yes l) =
-          room-held k (getD sheet at nan) (every-number (λ x. T (finite x)) square (number-finite reading n sheet (asked .places)) at l) (held at)
-          (each-below (length sheet) (λ at. hasRoom (timesPower k (getD sheet at nan))) (asked .room) at l)
+          room-held k (getD sheet at nan) (every-number (λ x. T (finite x)) square (number-finite reading n sheet (passed .places)) at l) (held at)
+          (each-below (length sheet) (λ at. hasRoom (timesPower k (getD sheet at nan))) (passed .room) at l)
       go (no l) =
           let none : getD sheet at nan ≡ nan = List·getD-eq-default sheet nan (omega arith) in
           rw none (subst (λ x. T (fits binary64 x)) none (held at))

@@ -13,7 +13,7 @@ use Rattle.definitions.specs.Moving.{timesPower, hasRoom, sheetHasRoom, moveAns
 use Rattle.rounding.proofs.TimesPower.{times-power-twice}
 use Rattle.steps.proofs.All.{all-below}
 use Rattle.commuting.specs.Commuting.{Moved, TwoMovesAreOne}
-use Rattle.commuting.proofs.Moves.{Asked, all-asked, asked, unit-is, sheet-is, number-is}
+use Rattle.commuting.proofs.Moves.{PassedMove, passes-again, passed, unit-is, sheet-is, number-is}
 
 sheet-twice : (a b : ℤ) (sheet : List Float) → movedSheet b (movedSheet a sheet) ≡ movedSheet (a +ℤ b) sheet
 unfolding movedSheet
@@ -32,20 +32,20 @@ module _ {reading n : ℕ} {e : ℤ} {sheet : List Float} {a e' : ℤ} {sheet' :
       ∙ all-below {n = length sheet} (λ at. hasRoom (timesPower b (getD sheet' at nan))) (λ at. hasRoom (timesPower (a +ℤ b) (getD sheet at nan)))
       (λ at l. ap hasRoom (ap (timesPower b) (number-is first at) ∙ times-power-twice a b (getD sheet at nan)))
 
-  pub single : T (exponentInRange (a +ℤ b)) → Asked reading n e sheet (a +ℤ b)
+  pub single : T (exponentInRange (a +ℤ b)) → PassedMove reading n e sheet (a +ℤ b)
   single t =
       record {
-        shape = asked first .shape;
-        places = asked first .places;
+        shape = passed first .shape;
+        places = passed first .places;
         exponent = t;
-        unit = subst (λ u. T (exponentInRange u)) unit-twice (asked second .unit);
-        room = subst T room-twice (asked second .room);
+        unit = subst (λ u. T (exponentInRange u)) unit-twice (passed second .unit);
+        room = subst T room-twice (passed second .room);
       }
 
 pub two-moves-are-one : TwoMovesAreOne
 unfolding TwoMovesAreOne moveAnswer movedArea
 two-moves-are-one reading n e sheet a e' sheet' b e'' sheet'' area first second room t =
-    let alone = all-asked reading n e sheet (a +ℤ b) (length area) (single first second t) room in
-    let again = all-asked reading n e' sheet' b (length area) (asked second) room in
+    let alone = passes-again reading n e sheet (a +ℤ b) (length area) (single first second t) room in
+    let again = passes-again reading n e' sheet' b (length area) (passed second) room in
     let same : movedSheet (a +ℤ b) sheet ≡ movedSheet b sheet' = sym (ap (movedSheet b) (sheet-is first) ∙ sheet-twice a b sheet) in
     (rw alone (ap given (sym (unit-is second ∙ unit-twice first second))), rw (alone, again) (ap (λ new. filled pass new area) same))

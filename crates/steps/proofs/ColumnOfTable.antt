@@ -27,18 +27,20 @@ use Rattle.steps.proofs.All.{each-below}
 use Rattle.steps.proofs.CompactOrder.{rank-below}
 use Rattle.steps.proofs.LiveStages.{live-count, steps-in-range, column-of-live, column-of-idle}
 use Rattle.steps.proofs.ZeroColumn.{zero-column}
-use Rattle.steps.proofs.QuestionLaws.{then-first, then-next, ask-yes}
+use Rattle.steps.proofs.QuestionLaws.{then-first}
+use Rattle.steps.proofs.AcceptedCalls.{AcceptedSheet, table-accepted}
 use Rattle.steps.proofs.TableLaws.{place-of-list, place-of-rows}
 
 module _ (n : ℕ) (e : ℤ) (sheet : List Float) (room : ℕ) (accepted : tableQuestions 1 n e sheet room ≡ pass) where
   -- Questions 2, 12, 3 and 6 to 9 are the same; 10 asks for every column.
-  input : (sizeQuestions n e (length sheet) ≡ pass) × (numberQuestions 1 n sheet ≡ pass)
+  its-sheet : AcceptedSheet 1 n sheet (everyStepInRange 1 n sheet)
+  its-sheet = table-accepted 1 n e sheet room accepted
+
+  its-size : sizeQuestions n e (length sheet) ≡ pass
   unfolding tableQuestions tableInput shapeQuestions question1
-  input =
-      let all = then-first (tableInput 1 n e sheet room) (question10 1 n sheet) accepted in
-      let size = sizeQuestions n e (length sheet) in
-      let rest = question4 (n * n) room then numberQuestions 1 n sheet in
-      (then-first size rest all, then-next (question4 (n * n) room) (numberQuestions 1 n sheet) (then-next size rest all))
+  its-size =
+      then-first (sizeQuestions n e (length sheet)) (question4 (n * n) room then numberQuestions 1 n sheet)
+      (then-first (tableInput 1 n e sheet room) (question10 1 n sheet) accepted)
 
   module _ (r : ℕ) (at : ℕ → System) (t : T (inRange r at)) where
     its-column : (q : ℕ) → q < r → T (column r at q)
@@ -55,11 +57,11 @@ module _ (n : ℕ) (e : ℤ) (sheet : List Float) (room : ℕ) (accepted : table
         zero-over-finite (solved r at i i) (p r at i) (and-l (finite q) (isZero (solved r at i i) || isZero (p r at i) || lt smallest q) last))
 
   in-range : (j : ℕ) → j < n → T (columnInRange n sheet j)
-  unfolding tableQuestions question10 columnInRange liveBegun inRange
+  unfolding columnInRange liveBegun inRange
   in-range j l =
       let r = liveCount n sheet in
       let at = downward r (liveSystem n sheet) in
-      let t = rw (steps-in-range n sheet) at (ask-yes (everyStepInRange 1 n sheet) 10 0 0 (then-next (tableInput 1 n e sheet room) (question10 1 n sheet) accepted)) in
+      let t = rw (steps-in-range n sheet) at (its-sheet .in-range) in
       and-i (shared r at) (column r at (columnOf n sheet j)) (and-l (shared r at) (all (column r at) 0 r) t)
       (by-bool (takesPart 1 n sheet j)
       (λ on. rw (column-of-live n sheet j on) (its-column r at t (rank (takesPart 1 n sheet) j) (rw (live-count n sheet) (rank-below (takesPart 1 n sheet) n j l on))))
@@ -68,7 +70,7 @@ module _ (n : ℕ) (e : ℤ) (sheet : List Float) (room : ℕ) (accepted : table
   column-accepted : (free stage : ℕ) → 1 ≤ stage → stage ≤ n → n ≤ free → columnQuestions 1 n e sheet free stage ≡ pass
   unfolding columnQuestions columnInput columnShape columnReading question4 question5
   column-accepted free stage a b c =
-      rw (input .0, le-leb n free c, le-leb 1 stage a, le-leb stage n b, input .1, is-true (columnInRange n sheet (stage - 1)) (in-range (stage - 1) (omega arith)))
+      rw (its-size, le-leb n free c, le-leb 1 stage a, le-leb stage n b, its-sheet .known .numbers, is-true (columnInRange n sheet (stage - 1)) (in-range (stage - 1) (omega arith)))
 
 pub column-of-table : ColumnOfTable
 unfolding ColumnOfTable columnArea stageColumn tableArea table
