@@ -1,11 +1,15 @@
 -- The sheet files, by computation from the definitions.
 use mathlib.Core.Path.{refl}
 use Rattle.definitions.proofs.Computing.{computing}
-use Rattle.definitions.specs.FileExamples.{DwellPrintsP, LongestFile, FileClaim, files, SaveClaim, saves}
+use Rattle.definitions.specs.FileExamples.{DwellPrintsP, DwellPrintsOne, LongestFile, FileClaim, files, SaveClaim, saves}
 
 pub dwell-prints-P : DwellPrintsP
 unfolding computing
 dwell-prints-P = refl
+
+pub dwell-prints-one : DwellPrintsOne
+unfolding computing
+dwell-prints-one = refl
 
 pub longest-file : LongestFile
 unfolding computing

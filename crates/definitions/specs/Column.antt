@@ -14,14 +14,14 @@ use Rattle.definitions.specs.Table.{liveCount, liveBegun, entry}
 use Rattle.definitions.specs.Questions.{Asked, ask, _then_, question4, question5, sizeQuestions, numberQuestions}
 use Rattle.definitions.specs.Services.{Answer, answer, filled}
 
--- "Reading 2 gets 1."
+-- "Reading 2 gets 1"; document 02, U10: "1 admits reading 3 except in the column engine".
 unfoldable pub columnReading : ℕ → Asked
 columnReading reading = ask (eqb reading 1) 1 0 0
 
 -- "Question 4 asks for n numbers; 5 concerns the one stage": `held` and `room` are the lengths of the sheet and of the answer area.
 unfoldable pub columnShape : ℕ → ℕ → ℤ → ℕ → ℕ → ℕ → Asked
 columnShape reading n e held room stage =
-    columnReading reading then sizeQuestions n e held then question4 n room then question5 n stage stage
+    columnReading reading then sizeQuestions 1 n e held then question4 n room then question5 n stage stage
 
 unfoldable pub columnInput : ℕ → ℕ → ℤ → List Float → ℕ → ℕ → Asked
 columnInput reading n e sheet room stage = columnShape reading n e (length sheet) room stage then numberQuestions 1 n sheet
@@ -29,13 +29,13 @@ columnInput reading n e sheet room stage = columnShape reading n e (length sheet
 -- The column of b that stage j's numbers come from. Asked for an idle stage, "the column engine still takes all steps of the others,
 -- with a column of zeros" (document 02, U3): past the last stage the identity has no 1.
 unfoldable pub columnOf : ℕ → List Float → ℕ → ℕ
-columnOf n sheet j = let on = takesPart 1 n sheet in cond (on j) (rank on j) (liveCount n sheet)
+columnOf n sheet j = let on = takesPart 1 n sheet in cond (on j) (rank on j) (liveCount 1 n sheet)
 
 -- "10 looks at this engine's own steps": those that serve every column, and those of that column of b.
 unfoldable pub columnInRange : ℕ → List Float → ℕ → Bool
 columnInRange n sheet j =
-    let r = liveCount n sheet in
-    let at = liveBegun n sheet in
+    let r = liveCount 1 n sheet in
+    let at = liveBegun 1 n sheet in
     shared r at && column r at (columnOf n sheet j)
 
 unfoldable pub columnQuestions : ℕ → ℕ → ℤ → List Float → ℕ → ℕ → Asked

@@ -43,6 +43,7 @@ columns =
     ∷ inUnit (negsuc 511) (line 1 2 P 2 three (gives 32 (num 1 ∷ num 2 ∷ num 9 ∷ [])))
     -- the questions before it, in order
     ∷ line 2 0 [] 0 [] (refuses 1 0 0 [])
+    ∷ line 3 1 (num 2 ∷ num 1 ∷ []) 1 one (refuses 1 0 0 one)
     ∷ inUnit (pos 513) (line 1 33 [] 0 [] (refuses 2 0 0 []))
     ∷ inUnit (pos 513) (line 1 2 (nan ∷ []) 0 one (refuses 12 0 0 one))
     ∷ line 1 2 (nan ∷ []) 0 one (refuses 3 0 0 one)

@@ -1,4 +1,4 @@
--- What the dwell program prints for the bytes of its standard input (document 01, "The sheet file"; document 02, U5).
+-- What the dwell program prints for the bytes of its standard input (document 01, "The sheet file"; document 02, U5 and U10).
 use Prim.Native.Nat.{ℕ, zero, suc, _+_, _/_, _%_}
 use Prim.Native.Char.{code}
 use Prim.Native.String.{String}
@@ -68,6 +68,7 @@ fileText bytes (given head) =
     (tableAnswer (head .reading) (head .n) (head .e) (fileNumbers bytes) 1024)
 fileText bytes (refused number row column) = refusedLine number row column
 
--- "It takes at most one byte more than the longest file and judges only those bytes." Its own areas hold 1,024 numbers.
+-- "It takes at most one byte more than the longest file and judges only those bytes." Its own areas hold every sheet, of up to 1,056
+-- numbers, and every table, of up to 1,024.
 unfoldable pub dwellText : List ℕ → List ℕ
-dwellText input = let bytes = take (suc longestFile) input in fileText bytes (fileAnswer bytes 1024)
+dwellText input = let bytes = take (suc longestFile) input in fileText bytes (fileAnswer bytes 1056)

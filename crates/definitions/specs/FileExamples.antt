@@ -1,5 +1,5 @@
--- Sheet files: files of sheet P with what dwell prints for them (document 01, "The sheet file"), damaged files, and sheets that are
--- saved (document 02, U1 and U5).
+-- Sheet files: files of sheet P with what dwell prints for them (document 01, "The sheet file"), files with weights (document 02, U10),
+-- damaged files, and sheets that are saved (document 02, U1 and U5).
 use Prim.Native.Nat.{ℕ}
 use mathlib.Core.List.{List, [], _∷_, _++_, map}
 use mathlib.Core.Path.{_≡_}
@@ -44,7 +44,20 @@ fileOfP low high = headOfP low high ++ row1OfP ++ row2OfP
 abbrev pub oldFileOfP : List ℕ
 oldFileOfP = oldHeadOfP ++ row1OfP ++ row2OfP
 
--- In seconds, with either head, in units of 2^512 seconds and in ticks of 2^-10 seconds.
+-- A file of one stage with weights: s = 1, z = 1. Its head is of either length.
+abbrev pub headOfOne : List ℕ
+headOfOne = fileRecord 6 1 (3 ∷ 0 ∷ 1 ∷ 0 ∷ 0 ∷ 0 ∷ [])
+
+abbrev pub oldHeadOfOne : List ℕ
+oldHeadOfOne = fileRecord 4 1 (3 ∷ 0 ∷ 1 ∷ 0 ∷ [])
+
+abbrev pub rowOfOne : List ℕ
+rowOfOne = fileRecord 10 2 ((1 ∷ 0 ∷ []) ++ one)
+
+abbrev pub weightsOfOne : List ℕ
+weightsOfOne = fileRecord 8 3 one
+
+-- P in seconds, with either head, in units of 2^512 seconds and in ticks of 2^-10 seconds, and the stage with a weight.
 abbrev pub linesOfP : List ℕ
 linesOfP = text "1 1 3ff0000000000000\n1 2 3ff0000000000000\n2 1 3ff0000000000000\n2 2 4000000000000000\n"
 
@@ -54,9 +67,12 @@ DwellPrintsP =
     ≡ map (λ first. first ++ linesOfP)
     (text "seconds 2 32 0\n" ∷ text "seconds 2 32 0\n" ∷ text "seconds 2 32 512\n" ∷ text "seconds 2 32 -10\n" ∷ [])
 
--- "The longest file is 8,460 bytes."
+unfoldable pub DwellPrintsOne : Type 0
+DwellPrintsOne = dwellText (headOfOne ++ rowOfOne ++ weightsOfOne) ≡ text "seconds 1 6 0\n1 1 3ff0000000000000\n"
+
+-- "The longest file is 8,722 bytes."
 unfoldable pub LongestFile : Type 0
-LongestFile = longestFile ≡ 8460
+LongestFile = longestFile ≡ 8722
 
 -- A file, the room lent, and what reading it answers.
 pub record FileLine : Type 0 where
@@ -85,8 +101,8 @@ files =
     ∷ file [] 4 (refused 11 0 0)
     ∷ file (6 ∷ 0 ∷ 0 ∷ 0 ∷ 1 ∷ []) 4 (refused 11 0 0)
     ∷ file (fileRecord 6 1 (1 ∷ 0 ∷ 2 ∷ 0 ∷ 0 ∷ [])) 4 (refused 11 0 0)
-    -- a head with reading 3, with n = 33, and of other lengths
-    ∷ file (fileRecord 4 1 (3 ∷ 0 ∷ 2 ∷ 0 ∷ [])) 4 (refused 12 0 0)
+    -- a head with reading 4, with n = 33, and of other lengths
+    ∷ file (fileRecord 4 1 (4 ∷ 0 ∷ 2 ∷ 0 ∷ [])) 4 (refused 12 0 0)
     ∷ file (fileRecord 4 1 (1 ∷ 0 ∷ 33 ∷ 0 ∷ [])) 4 (refused 12 0 0)
     ∷ file (fileRecord 5 1 (1 ∷ 0 ∷ 2 ∷ 0 ∷ 0 ∷ [])) 4 (refused 12 0 0)
     ∷ file (fileRecord 8 1 (1 ∷ 0 ∷ 2 ∷ 0 ∷ 0 ∷ 0 ∷ 0 ∷ 0 ∷ [])) 4 (refused 12 0 0)
@@ -98,6 +114,15 @@ files =
     -- one byte more, which is asked before the room; too little room
     ∷ file (fileOfP 0 0 ++ (0 ∷ [])) 3 (refused 14 0 0)
     ∷ file (fileOfP 0 0) 3 (refused 4 0 0)
+    -- weights, behind either head: a record of kind 3 and of their length, due as row n + 1, in reading 3 alone; room for them too
+    ∷ file (headOfOne ++ rowOfOne ++ weightsOfOne) 2 (given (record { reading = 3; n = 1; e = pos 0 }))
+    ∷ file (oldHeadOfOne ++ rowOfOne ++ weightsOfOne) 2 (given (record { reading = 3; n = 1; e = pos 0 }))
+    ∷ file (headOfOne ++ rowOfOne) 2 (refused 11 2 0)
+    ∷ file (headOfOne ++ rowOfOne ++ fileRecord 8 2 one) 2 (refused 13 2 0)
+    ∷ file (headOfOne ++ rowOfOne ++ fileRecord 0 3 []) 2 (refused 13 2 0)
+    ∷ file (headOfOne ++ rowOfOne ++ weightsOfOne ++ (0 ∷ [])) 1 (refused 14 0 0)
+    ∷ file (headOfOne ++ rowOfOne ++ weightsOfOne) 1 (refused 4 0 0)
+    ∷ file (fileOfP 0 0 ++ fileRecord 16 3 (one ++ one)) 4 (refused 14 0 0)
     ∷ []
 
 -- What a call of saving answers and leaves in the bytes lent.
@@ -145,8 +170,12 @@ saves =
     ∷ saved 1 2 (negsuc 511) wordsOfP 62 (fileOfP 0 254)
     -- a NaN pattern, byte for byte
     ∷ saved 2 1 (negsuc 9) (0xfff4000012345678 ∷ []) 30 (fileRecord 6 1 (2 ∷ 0 ∷ 1 ∷ 0 ∷ 246 ∷ 255 ∷ []) ++ fileRecord 10 2 (1 ∷ 0 ∷ 120 ∷ 86 ∷ 52 ∷ 18 ∷ 0 ∷ 0 ∷ 244 ∷ 255 ∷ []))
+    -- weights
+    ∷ saved 3 1 (pos 0) (0x3ff0000000000000 ∷ 0x3ff0000000000000 ∷ []) 44 (headOfOne ++ rowOfOne ++ weightsOfOne)
+    ∷ notSaved 3 1 (pos 0) (0x3ff0000000000000 ∷ []) 44 3
+    ∷ notSaved 3 1 (pos 0) (0x3ff0000000000000 ∷ 0x3ff0000000000000 ∷ []) 41 4
     -- 1, 2, 12, 3 and 4, each before the next; for 4 one byte is missing
-    ∷ notSaved 3 33 (pos 513) [] 0 1
+    ∷ notSaved 4 33 (pos 513) [] 0 1
     ∷ notSaved 1 33 (pos 513) [] 0 2
     ∷ notSaved 1 2 (pos 513) (1 ∷ 2 ∷ 3 ∷ []) 0 12
     ∷ notSaved 1 2 (negsuc 512) (1 ∷ 2 ∷ 3 ∷ []) 0 12

@@ -1,31 +1,61 @@
--- Steps for leaving rates (document 01, the section of that name, with the pivots of document 02, U8; source 000, Proposition 2.4), on r stages in compact order.
+-- Steps for leaving rates (document 01, the section of that name, with the pivots of document 02, U8; source 000, Proposition 2.4), on r stages in compact order; with
+-- weights the steps of reading 3 (document 02, U10; source 000, Remark 2.5).
 -- Stage k of the paper is k - 1 here, so stages run from 0 to r - 1.
 use Prim.Native.Nat.{ℕ, zero, suc, _-_}
-use mathlib.Core.Bool.{Bool, _&&_, _||_, cond}
+use mathlib.Core.Bool.{Bool, true, _&&_, _||_, cond}
 use lib.Dec.{leb, eqb}
 use lib.Ieee.{Float}
-use Rattle.definitions.specs.Numbers.{_⊕_, _⊗_, _⊘_, 0·0, 1·0, addInRange, divInRange, addProductInRange, sum, sumInRange, all}
+use Rattle.definitions.specs.Numbers.{_⊕_, _⊗_, _⊘_, 0·0, 1·0, addInRange, mulInRange, divInRange, addProductInRange, sum, sumInRange, all}
 use Rattle.definitions.specs.Tables.{stored, storedTable}
 
--- Sizes t_ij and leaving rates s_i.
+-- A weight z_j for each stage, in reading 3; the other readings have none.
+pub data Weights : Type 0 where
+  none : Weights
+  some : (ℕ → Float) → Weights
+
+-- Sizes t_ij, leaving rates s_i, and weights z.
 pub record System : Type 0 where
   pub t : ℕ → ℕ → Float
   pub s : ℕ → Float
+  pub z : Weights
 
--- A row of r numbers from its last one back; row k's sizes after the diagonal, added so.
+-- What a pivot adds for stage j: the row's t_kj, or with weights t_kj·z_j.
+abbrev pub weighed : Weights → (ℕ → Float) → ℕ → Float
+weighed none row j = row j
+weighed (some z) row j = row j ⊗ z j
+
+-- A row of r numbers from its last one back; what row k adds for the stages after k, added so.
 abbrev pub falling : ℕ → (ℕ → Float) → ℕ → Float
 falling r row q = row (r - suc q)
 
 abbrev pub laterSizes : ℕ → System → ℕ → Float
-laterSizes r a k = sum 0·0 (falling r (a .t k)) 0 (r - suc k)
+laterSizes r a k = sum 0·0 (falling r (weighed (a .z) (a .t k))) 0 (r - suc k)
 
--- Document 02, U8: "a pivot adds t_kj for j falling from n to k+1, starting at plus zero, and s_k last."
+-- Document 02, U10: "the sum is divided by z_k".
+abbrev pub overWeight : Weights → ℕ → Float → Float
+overWeight none k total = total
+overWeight (some z) k total = total ⊘ z k
+
+-- Document 02, U8: "a pivot adds t_kj for j falling from n to k+1, starting at plus zero, and s_k last"; U10: "adds t_kj·z_j for
+-- falling j, then s_k, and the sum is divided by z_k".
 unfoldable pub pivot : ℕ → System → ℕ → Float
-pivot r a k = laterSizes r a k ⊕ a .s k
+pivot r a k = overWeight (a .z) k (laterSizes r a k ⊕ a .s k)
 
--- Its additions in range (question 10).
+-- Its steps in range (question 10): the products with weights, the additions, the division by a weight.
+abbrev pub productsInRange : Weights → (ℕ → Float) → ℕ → ℕ → Bool
+productsInRange none row k m = true
+productsInRange (some z) row k m = all (λ j. mulInRange (row j) (z j)) k m
+
+abbrev pub overWeightInRange : Weights → ℕ → Float → Bool
+overWeightInRange none k total = true
+overWeightInRange (some z) k total = divInRange total (z k)
+
 unfoldable pub pivotInRange : ℕ → System → ℕ → Bool
-pivotInRange r a k = sumInRange 0·0 (falling r (a .t k)) 0 (r - suc k) && addInRange (laterSizes r a k) (a .s k)
+pivotInRange r a k =
+    productsInRange (a .z) (a .t k) (suc k) (r - suc k)
+    && sumInRange 0·0 (falling r (weighed (a .z) (a .t k))) 0 (r - suc k)
+    && addInRange (laterSizes r a k) (a .s k)
+    && overWeightInRange (a .z) k (laterSizes r a k ⊕ a .s k)
 
 -- "m = t_ik / p_k"
 unfoldable pub multiplier : ℕ → System → ℕ → ℕ → Float
@@ -38,6 +68,7 @@ eliminate r a k =
     record {
       t = storedTable 0·0 r (λ i j. a .t i j ⊕ multiplier r a k i ⊗ a .t k j);
       s = stored 0·0 r (λ i. a .s i ⊕ multiplier r a k i ⊗ a .s k);
+      z = a .z;
     }
 
 -- The system as stage k begins: after the downward stages before k.

@@ -6,7 +6,7 @@ use lib.Dec.{leb, eqb}
 use lib.Ieee.{Float}
 use Rattle.definitions.specs.Numbers.{_⊕_, _⊗_, _⊘_, 0·0, 1·0, isZero, addInRange, mulInRange, divInRange, sum, sumInRange, all}
 use Rattle.definitions.specs.Tables.{stored, storedTable}
-use Rattle.definitions.specs.LeavingRates.{System, downward, quotient, inRange}
+use Rattle.definitions.specs.LeavingRates.{System, none, downward, quotient, inRange}
 use Rattle.definitions.specs.Compact.{stagesWith, rank, compact}
 
 -- The sum of f over the stages below n that pass a test, rising, and its additions in range.
@@ -45,7 +45,7 @@ module _ (n : ℕ) (t : ℕ → ℕ → Float) (d : ℕ → Float) (k : ℕ → 
   -- "For kept i ≠ j the new off-diagonal size is t_ij·k_j. The new leaving rate of a kept i sums t_ij·(d_j / a_j) over every
   -- j > i, kept or not."
   unfoldable pub scaled : System
-  scaled = record { t = λ i j. t i j ⊗ k j; s = λ i. sum 0·0 (λ j. t i j ⊗ (d j ⊘ a j)) (suc i) (n - suc i) }
+  scaled = record { t = λ i j. t i j ⊗ k j; s = λ i. sum 0·0 (λ j. t i j ⊗ (d j ⊘ a j)) (suc i) (n - suc i); z = none }
 
   -- "Kept stages, in rising order, go through the steps above, giving y; x_ij = k_i·y_ij."
   unfoldable pub keptSystem : System

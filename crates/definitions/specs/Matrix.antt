@@ -1,11 +1,11 @@
--- The exact matrix A behind a sheet, and its inverse (document 01, "The sheet and its two readings").
+-- The exact matrix A behind a sheet, and its inverse (document 01, "The sheet and its two readings"; document 02, U10).
 use Prim.Native.Nat.{ℕ, zero, suc, _<_}
 use mathlib.Core.Bool.{Bool, true, not, cond}
 use mathlib.Core.List.{List}
 use lib.Dec.{T, eqb, ltb}
 use lib.Ieee.{Float}
 use Rattle.definitions.specs.Fractions.{Fraction, _≈_, whole, -ᶠ_, _+ᶠ_, _*ᶠ_, _/ᶠ_, value, total}
-use Rattle.definitions.specs.Sheet.{size, diagonal}
+use Rattle.definitions.specs.Sheet.{byReading, size, diagonal, weight}
 
 -- Exact sizes t and diagonal parameters s or d of n stages.
 module _ (n : ℕ) (t : ℕ → ℕ → Fraction) (d : ℕ → Fraction) where
@@ -25,19 +25,27 @@ module _ (n : ℕ) (t : ℕ → ℕ → Fraction) (d : ℕ → Fraction) where
   unfoldable pub marginSum : ℕ → Fraction
   marginSum i = d i +ᶠ hFrom (ratioBefore i) i
 
--- The sheet's sizes and diagonal as fractions.
+  -- Reading 3, with weights z: "The exact a_ii is s_i plus all t_ij·z_j, divided by z_i."
+  unfoldable pub weightedSum : (ℕ → Fraction) → ℕ → Fraction
+  weightedSum z i = (d i +ᶠ total (λ j. not (eqb i j)) (λ j. t i j *ᶠ z j) n) /ᶠ z i
+
+-- The sheet's sizes, diagonal and weights as fractions.
 unfoldable pub exactSize : ℕ → List Float → ℕ → ℕ → Fraction
 exactSize n sheet i j = value (size n sheet i j)
 
 unfoldable pub exactDiagonal : ℕ → List Float → ℕ → Fraction
 exactDiagonal n sheet i = value (diagonal n sheet i)
 
+unfoldable pub exactWeight : ℕ → List Float → ℕ → Fraction
+exactWeight n sheet j = value (weight n sheet j)
+
 -- A: off the diagonal "zero or negative, minus the rate"; on it a_ii under the sheet's reading.
 unfoldable pub matrix : ℕ → ℕ → List Float → ℕ → ℕ → Fraction
 matrix reading n sheet i j =
     let first = rowSum n (exactSize n sheet) (exactDiagonal n sheet) i in
     let second = marginSum n (exactSize n sheet) (exactDiagonal n sheet) i in
-    cond (eqb i j) (cond (eqb reading 1) first second) (-ᶠ exactSize n sheet i j)
+    let third = weightedSum n (exactSize n sheet) (exactDiagonal n sheet) (exactWeight n sheet) i in
+    cond (eqb i j) (byReading reading first second third) (-ᶠ exactSize n sheet i j)
 
 -- A stage below n that takes part.
 pub record Stage (n : ℕ) (on : ℕ → Bool) (i : ℕ) : Type 0 where

@@ -1,10 +1,10 @@
--- Sheets to move (document 02, U4 and U5): calls with what they answer and leave, and one claim about all of them.
+-- Sheets to move (document 02, U4, U5 and U10): calls with what they answer and leave, and one claim about all of them.
 use Prim.Native.Nat.{_-_, _*_, _^_}
 use mathlib.Core.List.{List, [], _∷_}
 use lib.IntN.{ℤ, pos, negsuc}
 use lib.Ieee.{Float, nan}
 use Rattle.definitions.specs.Moving.{moveAnswer, movedArea}
-use Rattle.definitions.specs.Starred.{num, quo, minus}
+use Rattle.definitions.specs.Starred.{num, quo, minus, sheetW}
 use Rattle.definitions.specs.Calls.{Line, Service, Claim, line, inUnit, gives, refuses, one, single, P, most}
 
 -- What stands beside the sheet is k.
@@ -25,6 +25,10 @@ unfoldable pub moveLines : List (Line ℤ ℤ)
 moveLines =
     line 1 2 P (pos 10) five (gives (pos 10) (num 1024 ∷ minus (num 1024) ∷ minus (num 1024) ∷ num 0 ∷ num 9 ∷ []))
     ∷ line 2 2 H (negsuc 0) five (gives (negsuc 0) (quo 3 2 ∷ minus (quo 1 2) ∷ minus (num 2) ∷ quo 1 2 ∷ num 9 ∷ []))
+    -- weights stay as they are, also where their products would have no room; they need room in the area
+    ∷ line 3 2 sheetW (pos 1) (num 4 ∷ five) (gives (pos 1) (num 4 ∷ minus (num 2) ∷ minus (num 2) ∷ num 3 ∷ num 1 ∷ num 2 ∷ []))
+    ∷ line 3 1 (num 1 ∷ most ∷ []) (pos 1) five (gives (pos 1) (num 2 ∷ most ∷ num 7 ∷ num 8 ∷ num 9 ∷ []))
+    ∷ line 3 1 (num 1 ∷ num 1 ∷ []) (pos 1) one (refuses 4 0 0 one)
     -- a zero keeps its sign
     ∷ line 1 2 (minus (num 0) ∷ num 0 ∷ minus (num 0) ∷ num 1 ∷ []) (pos 3) five (gives (pos 3) (minus (num 0) ∷ num 0 ∷ minus (num 0) ∷ num 8 ∷ num 9 ∷ []))
     -- the range of k, both ends
@@ -61,5 +65,5 @@ moveLines =
     ∷ line 1 2 (nan ∷ []) (pos 600) one (refuses 3 0 0 one)
     ∷ inUnit (negsuc 512) (line 1 2 (nan ∷ []) (pos 600) one (refuses 12 0 0 one))
     ∷ inUnit (negsuc 512) (line 1 33 [] (pos 600) [] (refuses 2 0 0 []))
-    ∷ line 3 0 [] (pos 600) [] (refuses 1 0 0 [])
+    ∷ line 4 0 [] (pos 600) [] (refuses 1 0 0 [])
     ∷ []

@@ -5,7 +5,7 @@ use lib.IntN.{pos, negsuc}
 use lib.Ieee.{Float, nan, inf}
 use mathlib.Core.Bool.{false, true}
 use Rattle.definitions.specs.Prices.{priceAnswer, priceArea}
-use Rattle.definitions.specs.Starred.{num, quo, minus, word}
+use Rattle.definitions.specs.Starred.{num, quo, minus, word, sheetW}
 use Rattle.definitions.specs.Calls.{Outcome, Line, Service, Claim, line, inUnit, gives, refuses, one, three, single, P, edge, most}
 
 -- What stands beside the sheet are the prices.
@@ -32,6 +32,8 @@ priceLines =
     -- margins, whose table is [1, 0, 0 | 0, 1, 0 | 1, 1, 1]: a price adds a row, and j rises
     ∷ line 2 3 (num 1 ∷ num 0 ∷ num 0 ∷ num 0 ∷ num 1 ∷ num 0 ∷ minus (num 1) ∷ minus (num 1) ∷ num 1 ∷ []) (num (2 ^ 53) ∷ num 1 ∷ num 1 ∷ []) three
     (gives 327 (num (2 ^ 53) ∷ num 1 ∷ word 0x4340000000000000 ∷ []))
+    -- weights (document 02, U10): W's table is [0.3125, 0.25 | 0.25, 1]
+    ∷ line 3 2 sheetW (num 16 ∷ num 4 ∷ []) three (gives 50 (num 6 ∷ num 8 ∷ num 9 ∷ []))
     -- minus zero is a price, and gives plus zero
     ∷ priced 1 (num 1) (minus (num 0)) (gives 5 (num 0 ∷ []))
     -- idle stages
@@ -50,7 +52,7 @@ priceLines =
     ∷ ofP nan (minus (num 1)) (refuses 19 1 0 three)
     ∷ line 1 2 edge (num 0 ∷ minus (num 1) ∷ []) three (refuses 19 2 0 three)
     -- the questions before it, in order
-    ∷ line 3 0 [] [] [] (refuses 1 0 0 [])
+    ∷ line 4 0 [] [] [] (refuses 1 0 0 [])
     ∷ inUnit (pos 513) (line 1 33 [] [] [] (refuses 2 0 0 []))
     ∷ inUnit (negsuc 512) (line 1 2 (nan ∷ []) [] [] (refuses 12 0 0 []))
     ∷ line 1 2 (nan ∷ []) [] [] (refuses 3 0 0 [])

@@ -74,6 +74,10 @@ starred =
     ∷ line 1 2 (num 1 ∷ nan ∷ num 5 ∷ num 1 ∷ []) (refused 6 1 2)
     ∷ []
 
+-- W, of reading 3 (document 02, U10): [2, −1 | −1, 1.5] and the weights 1 and 2, so that A is [4, −1 | −1, 1.25].
+unfoldable pub sheetW : List Float
+sheetW = num 2 ∷ minus (num 1) ∷ minus (num 1) ∷ quo 3 2 ∷ num 1 ∷ num 2 ∷ []
+
 -- Further sheets, each of which tells the documents from a near misreading.
 unfoldable pub further : List Line
 further =
@@ -99,6 +103,22 @@ further =
     -- the others' numbers go through the steps as they are: no product of a size this small is in range
     ∷ line 1 3 (num 0 ∷ num 0 ∷ num 0 ∷ num 0 ∷ num 1 ∷ minus (quo 1 (2 ^ 1022)) ∷ num 0 ∷ num 0 ∷ quo 1 (2 ^ 10) ∷ [])
     (gives 108 (num 0 ∷ num 0 ∷ num 0 ∷ num 0 ∷ num 1 ∷ quo 1 (2 ^ 1012) ∷ num 0 ∷ num 0 ∷ num (2 ^ 10) ∷ []))
+    -- sheets with weights (document 02, U10), in every unit; as many numbers as that
+    ∷ inUnit (negsuc 9) (line 3 2 sheetW (gives 48 (quo 5 16 ∷ quo 1 4 ∷ quo 1 4 ∷ num 1 ∷ [])))
+    ∷ line 3 1 (num 2 ∷ quo 1 2 ∷ []) (gives 6 (quo 1 4 ∷ []))
+    ∷ line 3 1 (num 2 ∷ []) (refused 3 0 0)
+    ∷ line 2 1 (num 2 ∷ num 1 ∷ []) (refused 3 0 0)
+    ∷ line 4 1 (num 2 ∷ num 1 ∷ []) (refused 1 0 0)
+    -- 6 to 8 of the weights, each of them with the whole sheet before the next; diagonals and weights positive
+    ∷ line 3 1 (num 0 ∷ nan ∷ []) (refused 6 2 1)
+    ∷ line 3 1 (num 0 ∷ num 1 ∷ []) (refused 7 1 1)
+    ∷ line 3 1 (num 2 ∷ num 0 ∷ []) (refused 7 2 1)
+    ∷ line 3 2 (num 1 ∷ num 0 ∷ num 0 ∷ num 1 ∷ num 1 ∷ minus (num 1) ∷ []) (refused 7 3 2)
+    ∷ line 3 1 (num 2 ∷ quo 1 (2 ^ 1074) ∷ []) (refused 8 2 1)
+    -- each product with a weight and each division by one is a step, so weights of 1 are not reading 1
+    ∷ line 1 2 (num 1 ∷ minus (quo 1 (2 ^ 1022)) ∷ num 0 ∷ quo 1 (2 ^ 10) ∷ []) (gives 32 (num 1 ∷ quo 1 (2 ^ 1012) ∷ num 0 ∷ num (2 ^ 10) ∷ []))
+    ∷ line 3 2 (num 1 ∷ minus (quo 1 (2 ^ 1022)) ∷ num 0 ∷ quo 1 (2 ^ 10) ∷ num 1 ∷ num 1 ∷ []) (refused 10 0 0)
+    ∷ line 3 1 (num 1 ∷ num (2 ^ 1022) ∷ []) (refused 10 0 0)
     -- "above 2^-1022" is asked of the rounded result
     ∷ line 1 2 (quo (2 ^ 52 + 1) (2 ^ 552) ∷ minus (num 1) ∷ minus (quo (2 ^ 53 - 1) (2 ^ 575)) ∷ num 1 ∷ []) (refused 10 0 0)
     ∷ line 1 1 (num (2 ^ 1022 - 2 ^ 969) ∷ []) (gives 4 (word 0x0010000000000001 ∷ []))

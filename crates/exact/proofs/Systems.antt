@@ -114,3 +114,7 @@ all-out-mono {k} {m} {A} {B} o f g = record { out = λ i l. gets-out-mono move-k
 
     exit-kept : (i : ℕ) → In k m i → T (exits A i) → T (exits B i)
     exit-kept i l t = lt→ltb zero (B i .exit) (g i l (ltb→lt zero (A i .exit) t))
+
+pub all-out-same :
+    {k m : ℕ} {A B : Equations} → ((i : ℕ) → In k m i → SameRow k m (A i) (B i)) → AllOut k m A → AllOut k m B
+all-out-same h o = all-out-mono o (λ i j li lj d p. subst (λ x. 0 < x) (h i li .size j lj) p) (λ i li p. subst (λ x. 0 < x) (h i li .exit) p)

@@ -4,6 +4,6 @@ mod SignedFractions
 pub mod Reduction
 pub mod ExactRatios
 pub mod ExactScaled
-mod RowForms
+pub mod RowForms
 pub mod ReducedReadings
 pub mod NearFractions

@@ -1,25 +1,25 @@
 -- The rule of each reading: its row form and its regularity put into the reduction.
 use Prim.Native.Nat.{_+_, _*_}
-use mathlib.Core.Path.{ap}
+use mathlib.Core.Path.{ap₂}
+use Rattle.exact.proofs.Sums.{sum-cong}
 use Rattle.exact.specs.Sums.{sum}
 use Rattle.exact.specs.Systems.{diag}
 use Rattle.definitions.specs.Matrix.{matrix}
 use Rattle.rounding.specs.Good.{one·units}
 use Rattle.inverse.specs.Reduction.{Reduction, SystemInverse}
 use Rattle.inverse.specs.ExactRatios.{H}
-use Rattle.inverse.specs.RowForms.{LeavingRatesRows, MarginsRows}
+use Rattle.inverse.specs.RowForms.{MarginsRows}
 use Rattle.inverse.specs.ExactScaled.{MarginsRegular}
 use Rattle.inverse.specs.ReducedReadings.{LeavingRatesInverse, MarginsReduced}
 use Rattle.inverse.proofs.Reduction.{reduction, system-inverse}
-use Rattle.inverse.proofs.RowForms.{leaving-rates-rows, margins-rows}
+use Rattle.inverse.proofs.RowForms.{margins-rows}
 use Rattle.inverse.proofs.ExactScaled.{margins-regular}
 
 pub leaving-rates-inverse : LeavingRatesInverse
-unfolding LeavingRatesInverse SystemInverse LeavingRatesRows diag
-leaving-rates-inverse n on sheet S s Z z h exits =
-    system-inverse n on (matrix 1 n sheet) S (λ i. s i + sum (S i .size) 0 n) (λ i. one·units) Z z
-    (leaving-rates-rows n sheet (λ i. S i .size) s h)
-    (λ i o. ap (λ x. x + sum (S i .size) 0 n) (exits i o))
+unfolding LeavingRatesInverse SystemInverse diag
+leaving-rates-inverse n on A S t s x u Z z positive sizes rows exits =
+    system-inverse n on A S t x (λ i. s i * u + sum (λ j. t i j * x j) 0 n) (λ i. one·units) Z z positive sizes rows
+    (λ i o. ap₂ (λ x y. x + y) (exits i o) (sum-cong (S i .size) (λ j. t i j * x j) 0 n (λ j l. sizes i j)))
 
 pub margins-reduced : MarginsReduced
 unfolding MarginsReduced Reduction MarginsRows MarginsRegular

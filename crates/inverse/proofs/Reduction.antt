@@ -1,10 +1,10 @@
 -- The accuracy rule follows from its whole-number form. X has the entries z_ji / Z_j; a matrix Y that is inverse too has each
 -- column over the product of its denominators, as P − Q over D, and Z·P is compared with Z·Q + D·z.
-use mathlib.Core.Path.{_≡_, refl, sym, ap, _∙_, subst}
+use mathlib.Core.Path.{_≡_, refl, sym, ap, _∙_, subst, fun-ext}
 use mathlib.Core.Logic.{_≢_, _⊎_, inl, inr}
 use mathlib.Core.Bool.{Bool, true, false, not, cond}
 use Prim.Native.Nat.{ℕ, _+_, _*_, _/_, _^_, _≤_, _<_, zero-le}
-use native.Mathlib.Nat.{zero-mul, mul-zero, mul-pos, le-antisymm, le-of-eq}
+use native.Mathlib.Nat.{zero-mul, mul-zero, mul-comm, mul-right-comm, mul-pos, le-antisymm, le-of-eq, le-of-mul-le-mul-right}
 use native.Mathlib.Omega.{arith}
 use lib.Dec.{T, T-not, eqb, lit<}
 use lib.Ieee.{Float}
@@ -17,7 +17,7 @@ use Rattle.exact.specs.Comparison.{RowBelow, Comparison}
 use Rattle.exact.proofs.Cases.{by-bool}
 use Rattle.exact.proofs.Comparison.{comparison}
 use Rattle.exact.proofs.CommonDenominator.{product, product-pos, over-product}
-use Rattle.exact.proofs.Sums.{sum-add, sum-cong, zero-sum, sum-factor}
+use Rattle.exact.proofs.Sums.{sum-add, sum-cong, zero-sum, sum-scale, sum-factor}
 use Rattle.definitions.specs.Fractions.{Fraction, _≈_, whole, _*ᶠ_, total}
 use Rattle.definitions.specs.Matrix.{Stage, everyStage, Inverse}
 use Rattle.definitions.specs.Numbers.{0·0, units}
@@ -27,7 +27,7 @@ use Rattle.inverse.proofs.PartialSums.{delta-other, delta-times, sum-de
 use Rattle.rounding.specs.Good.{Good, one·units}
 use Rattle.rounding.proofs.Laws.{one-pos, good-finite, zero-is-good, units-zero}
 use Rattle.inverse.proofs.SignedFractions.{times, own-ratio, ratio-as, ratio-carry, ratios-agree, ratio-of-equal, same-ratio, ratio-scale, ratio-mul, plain-mul, ratio-total, plain-le, plain-sign, whole-ratio, max-one, value-ratio}
-use Rattle.exact.proofs.Near.{base-pos, near-eq}
+use Rattle.exact.proofs.Near.{base-pos, near-eq, pos-left}
 
 -- The entry (i, j) of the identity.
 delta-whole : (i j : ℕ) → Ratio (cond (eqb i j) (whole 1) (whole 0)) (delta i j 1) 0 1
@@ -248,12 +248,81 @@ module _ (n : ℕ) (on : ℕ → Bool) (S : Equations) (a : ℕ → ℕ)
   unfolding Regular
   system-regular out p q same i s = le-antisymm (below-everywhere out p q same i s) (below-everywhere out q p (λ i s. sym (same i s)) i s)
 
+-- ---- weights
+-- A factor that is not zero is taken off.
+factor-off : (p q y : ℕ) → 0 < y → p * y ≡ q * y → p ≡ q
+factor-off p q y l e = le-antisymm (le-of-mul-le-mul-right (le-of-eq e) l) (le-of-mul-le-mul-right (le-of-eq (sym e)) l)
+
+-- With x·y = w the sums of t·x·(q·y) are those of t·q times w, whether x and y stand in the row or in the column.
+column-weights : (t x q y : ℕ → ℕ) (w n : ℕ) → ((k : ℕ) → k < n → x k * y k ≡ w) → sum (λ k. t k * x k * (q k * y k)) 0 n ≡ sum (λ k. t k * q k) 0 n * w
+column-weights t x q y w n e =
+    sum-cong (λ k. t k * x k * (q k * y k)) (λ k. t k * q k * w) 0 n (λ k l. column-weight (t k) (x k) (q k) (y k) (e k (omega arith)))
+    ∙ sum-scale (λ k. t k * q k) w 0 n
+  where
+    column-weight : (t x q y : ℕ) → x * y ≡ w → t * x * (q * y) ≡ t * q * w
+    column-weight t x q y e = omega (arith, ap (λ p. t * q * p) e)
+
+row-weights : (t q : ℕ → ℕ) (x n : ℕ) → sum (λ k. t k * x * q k) 0 n ≡ sum (λ k. t k * q k) 0 n * x
+row-weights t q x n = sum-cong (λ k. t k * x * q k) (λ k. t k * q k * x) 0 n (λ k l. mul-right-comm (t k) x (q k)) ∙ sum-scale (λ k. t k * q k) x 0 n
+
+-- One row of the vectors p and q, and of those over the weights.
+weigh-row : (a x y w p q P Q : ℕ) → x * y ≡ w → a * p + Q * x ≡ a * q + P * x → a * (p * y) + Q * w ≡ a * (q * y) + P * w
+weigh-row a x y w p q P Q e f = omega (arith, times y f, ap (λ k. Q * k) e, ap (λ k. P * k) e)
+
+module _ (n : ℕ) (on : ℕ → Bool) (t : ℕ → ℕ → ℕ) (x : ℕ → ℕ) (a : ℕ → ℕ) (positive : (j : ℕ) → j < n → 0 < x j) where
+  -- The product of the weights over each of them.
+  abbrev w : ℕ
+  w = product x 0 n
+
+  abbrev y : ℕ → ℕ
+  y k = w / x k
+
+  over-weight : (k : ℕ) → k < n → x k * y k ≡ w
+  over-weight k l = over-product x 0 n k (omega arith)
+
+  y-pos : (k : ℕ) → k < n → 0 < y k
+  y-pos k l = pos-left (y k) (x k) (rw (mul-comm (y k) (x k), over-weight k l) (product-pos x 0 n (λ j h. positive j (omega arith))))
+
+  weighted-regular : Regular n on a (λ i j. t i j * x j) → Regular n on a (λ i j. t i j * x i)
+  unfolding Regular
+  weighted-regular regular p q same i s =
+      factor-off (p i) (q i) (y i) (y-pos i (s .below))
+      (regular (λ k. p k * y k) (λ k. q k * y k)
+      (λ i s.
+      rw (column-weights (t i) x q y w n over-weight, column-weights (t i) x p y w n over-weight)
+      (weigh-row (a i) (x i) (y i) w (p i) (q i) (sum (λ k. t i k * p k) 0 n) (sum (λ k. t i k * q k) 0 n) (over-weight i (s .below))
+      (rw (row-weights (t i) q (x i) n, row-weights (t i) p (x i) n) at (same i s)))) i s)
+
+-- Row i of a solution z, times the weights.
+weighted-row : (a z x d c Z m : ℕ) → a * z ≡ d * Z + m → d * x ≡ c → a * (z * x) ≡ c * Z + m * x
+weighted-row a z x d c Z m e f = omega (arith, times x e, ap (λ k. k * Z) f)
+
+delta-factor : (i j c x : ℕ) → delta i j c * x ≡ delta i j (c * x)
+delta-factor i j c x = go (eqb i j)
+  where
+    go : (b : Bool) → cond b c 0 * x ≡ cond b (c * x) 0
+    go true = refl
+    go false = zero-mul x
+
 pub system-inverse : SystemInverse
-unfolding SystemInverse InverseReduction diag mix
-system-inverse n on A S a c Z z rows diagonal apart out columns =
-    inverse-reduction n on A a (λ i. S i .size) c Z z rows apart
+unfolding SystemInverse InverseReduction Apart diag mix
+system-inverse n on A S t x a c Z z positive sizes rows diagonal apart out columns =
+    inverse-reduction n on A a (λ i j. t i j * x i) (λ i. c i * x i) Z (λ j i. z j i * x i) rows
+    (λ i j s l o. rw (apart i j s l o) (zero-mul (x i)))
     (record {
       positive = λ j s. columns .positive j (s .below);
-      row = λ i j s o. rw (← (diagonal i s)) (columns .solves j (o .below) .row i (omega (arith, s .below)));
+      row = λ i j s o.
+          rw (row-weights (t i) (λ k. z j k * x k) (x i) n)
+          (weighted-row (a i) (z j i) (x i) (delta i j (c i)) (delta i j (c i * x i)) (Z j) (sum (λ k. t i k * (z j k * x k)) 0 n) (own i j s o) (delta-factor i j (c i) (x i)));
     })
-    (system-regular n on S a diagonal apart out)
+    (weighted-regular n on t x a positive
+    (rw (fun-ext (λ i. fun-ext (λ j. sizes i j))) at
+    (system-regular n on S a diagonal (λ i j s l o. sizes i j ∙ rw (apart i j s l o) (zero-mul (x j))) out)))
+  where
+    own : (i j : ℕ) → Stage n on i → Stage n on j → a i * z j i ≡ delta i j (c i) * Z j + sum (λ k. t i k * (z j k * x k)) 0 n
+    own i j s o =
+        rw (← (diagonal i s), ← (sum-cong (λ k. S i .size k * z j k) (λ k. t i k * (z j k * x k)) 0 n (λ k l. ap (λ u. u * z j k) (sizes i k) ∙ column (t i k) (x k) (z j k))))
+        (columns .solves j (o .below) .row i (omega (arith, s .below)))
+      where
+        column : (t x z : ℕ) → t * x * z ≡ t * (z * x)
+        column t x z = omega arith

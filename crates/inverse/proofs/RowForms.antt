@@ -1,4 +1,4 @@
--- The exact matrices of the two readings have their row forms.
+-- The exact matrices of the readings have their row forms.
 use mathlib.Core.Path.{_≡_, refl, sym, ap}
 use mathlib.Core.Logic.{_≢_}
 use mathlib.Core.List.{List}
@@ -6,15 +6,18 @@ use mathlib.Core.Bool.{Bool, true, false, not, cond}
 use Prim.Native.Nat.{ℕ, zero, suc, _+_, _*_, _≤_, _<_}
 use native.Mathlib.Nat.{mul-pos}
 use native.Mathlib.Omega.{arith}
-use lib.Dec.{T, eqb, ltb, eqb→eq, ltb→lt}
+use lib.Dec.{T, lit<, eqb, ltb, eqb→eq, ltb→lt}
 use lib.Ieee.{Float}
 use Rattle.exact.specs.Sums.{sum}
 use Rattle.definitions.specs.Fractions.{Fraction, -ᶠ_, _+ᶠ_, _*ᶠ_, _/ᶠ_}
-use Rattle.definitions.specs.Matrix.{rowSum, hFrom, ratioBefore, marginSum, exactSize, exactDiagonal, matrix}
+use Rattle.definitions.specs.Matrix.{rowSum, hFrom, ratioBefore, marginSum, weightedSum, exactSize, exactDiagonal, exactWeight, matrix}
 use Rattle.rounding.specs.Good.{one·units}
 use Rattle.inverse.specs.Reduction.{Ratio, delta}
 use Rattle.inverse.specs.ExactRatios.{H, ExactRatios}
-use Rattle.inverse.specs.RowForms.{InUnits, LeavingRatesRows, MarginsRows}
+use Rattle.definitions.specs.Numbers.{units}
+use Rattle.definitions.specs.Sheet.{weight}
+use Rattle.exact.proofs.Sums.{sum-scale}
+use Rattle.inverse.specs.RowForms.{InUnits, LeavingRatesRows, WeightedRows, MarginsRows}
 use Rattle.inverse.proofs.PartialSums.{not-equal, sum-except, sum-below, sum-above}
 use Rattle.rounding.proofs.Laws.{one-pos}
 use Rattle.inverse.proofs.SignedFractions.{times, ratio-as, ratio-carry, ratio-neg, plain-both, plain-scale, plain-add, plain-mul, plain-div, plain-total, value-ratio}
@@ -42,6 +45,18 @@ module _
         let e = sum-except (t i) i n l in
         let r = plain-total (λ j. not (eqb i j)) (f i) (t i) u n (λ j h o. sizes i j l h (not-equal i j o)) in
         ratio-as (plain-both (t i i) (plain-add (diagonals i l) r)) (omega arith) refl refl
+
+    -- The same with weights e_j that are x_j over u, and then divided by that of stage i.
+    weighted-sum : (e : ℕ → Fraction) (x : ℕ → ℕ) → 0 < u → ((j : ℕ) → j < n → Ratio (e j) (x j) 0 u) → ((j : ℕ) → j < n → 0 < x j)
+        → (i : ℕ) → i < n → Ratio (weightedSum n f g e i) (d i * u + sum (λ j. t i j * x j) 0 n) (t i i * x i) (u * x i)
+    unfolding weightedSum
+    weighted-sum e x k weights positive i l =
+        let terms = plain-total (λ j. not (eqb i j)) (λ j. f i j *ᶠ e j) (λ j. t i j * x j) (u * u) n (λ j h o. plain-mul (sizes i j l h (not-equal i j o)) (weights j h)) in
+        let whole = plain-div (mul-pos k k) k (positive i l) (plain-add (plain-scale u (diagonals i l)) terms) (weights i l) in
+        let rest = sum (λ j. cond (not (eqb i j)) (t i j * x j) 0) 0 n in
+        let all = sum-except (λ j. t i j * x j) i n l in
+        let over : Ratio (weightedSum n f g e i) (d i * u + rest) 0 (u * x i) = ratio-carry (mul-pos (mul-pos k k) (positive i l)) whole (omega arith) in
+        ratio-as (plain-both (t i i * x i) over) (omega arith) refl refl
 
     -- h_i over u·D, from ratios K_j / D of the stages before i.
     h-from :
@@ -112,11 +127,29 @@ leaving-rates-rows n sheet t s h =
     let g = exactDiagonal n sheet in
     let sizes = exact-size n sheet t s h in
     record {
-      positive = λ i l. one-pos;
+      positive = λ i l. mul-pos one-pos (lit< tt);
       entry =
           λ i j l o.
-          row-entry i j (s i + sum (t i) 0 n) one·units (rowSum n f g i) (f i) (t i)
-          (row-sum n f g t s one·units sizes (exact-diagonal n sheet t s h) i l) (sizes i j l o);
+          let all = sum-scale (t i) 1 0 n in
+          row-entry i j (s i * 1 + sum (λ j. t i j * 1) 0 n) (one·units * 1) (rowSum n f g i) (f i) (λ j. t i j * 1)
+          (ratio-as (row-sum n f g t s one·units sizes (exact-diagonal n sheet t s h) i l) (omega arith) (omega arith) (omega arith))
+          (λ e. plain-scale 1 (sizes i j l o e));
+    }
+
+pub weighted-rows : WeightedRows
+unfolding WeightedRows matrix exactWeight
+weighted-rows n sheet t s h good positive =
+    let f = exactSize n sheet in
+    let g = exactDiagonal n sheet in
+    let x : ℕ → ℕ = λ j. units (weight n sheet j) in
+    let sizes = exact-size n sheet t s h in
+    record {
+      positive = λ i l. mul-pos one-pos (positive i l);
+      entry =
+          λ i j l o.
+          row-entry i j (s i * one·units + sum (λ j. t i j * x j) 0 n) (one·units * x i) (weightedSum n f g (exactWeight n sheet) i) (f i) (λ j. t i j * x i)
+          (weighted-sum n f g t s one·units sizes (exact-diagonal n sheet t s h) (exactWeight n sheet) x one-pos (λ j l. value-ratio (good j l)) positive i l)
+          (λ e. plain-scale (x i) (sizes i j l o e));
     }
 
 pub margins-rows : MarginsRows

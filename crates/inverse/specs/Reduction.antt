@@ -116,14 +116,17 @@ pub record SystemColumns (n : ℕ) (S : Equations) (c : ℕ → ℕ) (Z : ℕ �
   pub positive : (j : ℕ) → j < n → 0 < Z j
   pub solves : (j : ℕ) → j < n → Solves 0 n (withRight S (λ i. delta i j (c i))) (Z j) (z j)
 
--- Theorem: the one inverse over the stages that take part, from a system that gets out. What the system has in the rows of the
--- other stages does not matter.
+-- Theorem: the one inverse over the stages that take part, from a system that gets out and whose unknowns are divided by weights x: its
+-- sizes are t_ij x_j. What the system has in the rows of the other stages does not matter.
 unfoldable pub SystemInverse : Type 0
 SystemInverse =
-    (n : ℕ) (on : ℕ → Bool) (A : ℕ → ℕ → Fraction) (S : Equations) (a : ℕ → ℕ) (c : ℕ → ℕ) (Z : ℕ → ℕ) (z : ℕ → ℕ → ℕ)
-    → RowForm n A a (λ i. S i .size) c
+    (n : ℕ) (on : ℕ → Bool) (A : ℕ → ℕ → Fraction) (S : Equations) (t : ℕ → ℕ → ℕ) (x : ℕ → ℕ)
+    (a : ℕ → ℕ) (c : ℕ → ℕ) (Z : ℕ → ℕ) (z : ℕ → ℕ → ℕ)
+    → ((j : ℕ) → j < n → 0 < x j)
+    → ((i j : ℕ) → S i .size j ≡ t i j * x j)
+    → RowForm n A a (λ i j. t i j * x i) (λ i. c i * x i)
     → ((i : ℕ) → Stage n on i → diag 0 n (S i) ≡ a i)
-    → Apart n on (λ i. S i .size)
+    → Apart n on t
     → AllOut 0 n S
     → SystemColumns n S c Z z
-    → OnlyInverse n on A (λ i j. fraction (z j i) (Z j))
+    → OnlyInverse n on A (λ i j. fraction (z j i * x i) (Z j))

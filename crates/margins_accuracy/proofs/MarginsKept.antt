@@ -1,6 +1,6 @@
 -- The kept system: its computed numbers against the exact ones, and its answers by the accuracy of the engine.
 use Prim.Native.Nat.{ℕ, zero, suc, _+_, _*_, _-_, _≤_, _<_}
-use native.Mathlib.Nat.{zero-add, zero-mul, mul-zero}
+use native.Mathlib.Nat.{zero-add, zero-mul, mul-zero, mul-one}
 use native.Mathlib.Decide.{ℕ-discrete}
 use native.Mathlib.Omega.{arith}
 use mathlib.Core.Bool.{true, false}
@@ -18,11 +18,11 @@ use Rattle.exact.proofs.Systems.{multiplied, solves-multiplied, all-out-mono}
 use Rattle.exact.proofs.Elimination.{existence}
 use Rattle.exact.proofs.Perturbation.{all-rows, near-out, near-row-sym}
 use Rattle.definitions.specs.Numbers.{_⊗_, _⊘_, 0·0, sum, units}
-use Rattle.definitions.specs.LeavingRates.{downward, quotient}
+use Rattle.definitions.specs.LeavingRates.{none, downward, quotient}
 use Rattle.definitions.specs.Compact.{rank}
 use Rattle.definitions.specs.Margins.{a, kept, keptSystem, y, xAfter}
 use Rattle.rounding.specs.Good.{Good, one·units}
-use Rattle.steps.proofs.MarginsSteps.{kept-size, kept-exit, y-is, x-start}
+use Rattle.steps.proofs.MarginsSteps.{kept-size, kept-exit, kept-weights, y-is, x-start}
 use Rattle.steps.proofs.CompactOrder.{rank-below, stage-of-rank, Listed, listed}
 use Rattle.rates_accuracy.specs.LeavingRatesAccuracy.{inUnits, identityColumn, GoodSystem, Computed, EngineWithin, EngineAccuracy}
 use Rattle.inverse.specs.Reduction.{delta}
@@ -137,8 +137,8 @@ module _ {n : ℕ} {t : ℕ → ℕ → Float} {d : ℕ → Float} {D : ℕ} {K 
         (near-eq none) term-near in
         near-grow (exit-count n i bi) (rw (zero-add (exitSum (s .exact) i)) at near)
 
-  system-good : GoodSystem 0 r (keptSystem n t d k)
-  system-good = record { size = size-good; exit = exit-good }
+  system-good : GoodSystem none 0 r (keptSystem n t d k)
+  system-good = record { size = size-good; exit = exit-good; weights = kept-weights n t d k }
     where
       size-good : (p q : ℕ) → In 0 r p → In 0 r q → p ≢ q → Good (keptSystem n t d k .t p q)
       size-good p q lp lq e =
@@ -162,7 +162,7 @@ module _ {n : ℕ} {t : ℕ → ℕ → Float} {d : ℕ → Float} {D : ℕ} {K 
   exactRows j = packed (kept n t d k) n (exactAll j)
 
   abbrev unitRows : ℕ → Equations
-  unitRows q = inUnits (keptSystem n t d k) (identityColumn q)
+  unitRows q = inUnits none (keptSystem n t d k) (identityColumn q)
 
   others-empty : (j i l : ℕ) → i < n → l < n → kept n t d k l ≡ false → exactAll j i .size l ≡ 0
   others-empty j i l bi bl e =
@@ -193,33 +193,33 @@ module _ {n : ℕ} {t : ℕ → ℕ → Float} {d : ℕ → Float} {D : ℕ} {K 
 
       sizes :
           (l : ℕ) → In 0 r l → p ≢ l
-          → Near (systemCount n) (units (keptSystem n t d k .t p l) * D) (units (t (at p) (at l)) * K (at l))
+          → Near (systemCount n) (units (keptSystem n t d k .t p l) * 1 * D) (units (t (at p) (at l)) * K (at l))
       sizes l ll e =
           let bl : l < r = omega arith in
           let ip = at-is p bp in
           let il = at-is l bl in
-          rw (kept-size n t d k p l bp bl)
+          rw (mul-one (units (keptSystem n t d k .t p l)), kept-size n t d k p l bp bl)
           (new-size-near (at p) (at l) (ip .below) (il .below) (ip .passes) (il .passes) (at-apart p l bp bl e))
 
       exits :
-          Near (systemCount n) (units (keptSystem n t d k .s p) * D) (exitSum (s .exact) (at p) + delta (K (at p)) 0 1)
+          Near (systemCount n) (units (keptSystem n t d k .s p) * 1 * D) (exitSum (s .exact) (at p) + delta (K (at p)) 0 1)
       exits =
           let ip = at-is p bp in
           let above = kept-tells s .yes-kept (at p) (ip .below) (ip .passes) in
           let apart : K (at p) ≢ 0 = λ z. absurd (omega (arith, h-zero (s .exact) (at p) (ip .below) z)) in
           let e : exitSum (s .exact) (at p) + delta (K (at p)) 0 1 ≡ exitSum (s .exact) (at p) =
           omega (arith, delta-other (K (at p)) 0 1 apart) in
-          rw (kept-exit n t d k p bp, e) (new-exit-near (at p) (ip .below) (ip .passes))
+          rw (mul-one (units (keptSystem n t d k .s p)), kept-exit n t d k p bp, e) (new-exit-near (at p) (ip .below) (ip .passes))
 
   multiplied-out : (q : ℕ) → q < r → AllOut 0 r (λ p. multiplied D (unitRows q p))
   multiplied-out q bq = near-out (exact-out (at q)) (λ p lp. near-row-sym (rows-near q bq p lp) .moves)
 
   -- The system gets out, whatever its right side is.
-  units-out : (b : ℕ → ℕ) (q : ℕ) → q < r → AllOut 0 r (inUnits (keptSystem n t d k) b)
+  units-out : (b : ℕ → ℕ) (q : ℕ) → q < r → AllOut 0 r (inUnits none (keptSystem n t d k) b)
   units-out b q bq =
       all-out-mono (multiplied-out q bq)
-      (λ i j li lj e p. pos-left (units (keptSystem n t d k .t i j)) D p)
-      (λ i li p. pos-left (units (keptSystem n t d k .s i)) D p)
+      (λ i j li lj e p. pos-left (units (keptSystem n t d k .t i j) * 1) D p)
+      (λ i li p. pos-left (units (keptSystem n t d k .s i) * 1) D p)
 
   module _ (engine : EngineAccuracy) where
     -- The answers of the engine, near those of the computed system, which are near those of the exact one.
@@ -234,7 +234,7 @@ module _ {n : ℕ} {t : ℕ → ℕ → Float} {d : ℕ → Float} {D : ℕ} {K 
         let (c, z, pos, solves) = existence 0 r (unitRows q) (units-out (identityColumn q) q bq) in
         let shared = table-shared r at₀ (s .range .engine) in
         let column = table-column r at₀ (s .range .engine) q bq in
-        let computed = engine r q (keptSystem n t d k) system-good (units-out (λ i. zero) q bq) shared column c z solves p bp in
+        let computed = engine none r q (keptSystem n t d k) tt system-good (units-out (λ i. zero) q bq) shared column c z solves p bp in
         let moved =
         all-rows 0 r (λ p. multiplied D (unitRows q p)) (exactRows j) (systemCount n) c (over (s .exact) j) z
         (λ p. answer (s .exact) j (at p)) (multiplied-out q bq) (rows-near q bq) (solves-multiplied D solves) (exact-solves j) p
@@ -243,7 +243,7 @@ module _ {n : ℕ} {t : ℕ → ℕ → Float} {d : ℕ → Float} {D : ℕ} {K 
           good = computed .good;
           near =
               near-through one·units (over (s .exact) j) (units (quotient r at₀ p q)) (z p) (answer (s .exact) j (at p)) pos
-              (computed .near) moved;
+              (rw (mul-one (z p)) at (computed .near)) moved;
         }
 
     module _ (i j : ℕ) (bi : i < n) (bj : j < n) (ki : kept n t d k i ≡ true) (kj : kept n t d k j ≡ true) where

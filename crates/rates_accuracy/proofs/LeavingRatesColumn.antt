@@ -11,11 +11,11 @@ use Rattle.exact.specs.Run.{RightStep}
 use Rattle.exact.proofs.Near.{near-eq}
 use Rattle.exact.proofs.Sums.{first, later}
 use Rattle.definitions.specs.Numbers.{0·0, 1·0, units}
-use Rattle.definitions.specs.LeavingRates.{System, b↓, column}
+use Rattle.definitions.specs.LeavingRates.{Weights, System, b↓, column}
 use Rattle.rounding.specs.Good.{Good, one·units}
 use Rattle.rounding.proofs.Laws.{zero-is-good, one-is-good, units-zero, units-one}
 use Rattle.steps.proofs.LeavingRatesSteps.{column-start, column-before, column-step}
-use Rattle.rates_accuracy.specs.LeavingRatesAccuracy.{inUnits, identityColumn, stageRoundings}
+use Rattle.rates_accuracy.specs.LeavingRatesAccuracy.{weightUnits, inUnits, identityColumn, GoodWeights, stageRoundings}
 use Rattle.rates_accuracy.proofs.LeavingRatesRange.{downward-column, column-down}
 use Rattle.rates_accuracy.proofs.LeavingRatesStages.{Eliminated, Shared, place-step}
 use Rattle.exact.proofs.Cases.{by-order}
@@ -44,17 +44,17 @@ module _ (r : ℕ) (at : ℕ → System) (j : ℕ) where
   left-zero k h =
       ap (λ b. units (b k)) (column-left k (omega arith)) ∙ column-units k ∙ rw (ne-eqb k j (omega arith))
 
-  module _ (s : Shared r at) (t : T (column r at j)) where
+  module _ (w : Weights) (gw : GoodWeights r w) (s : Shared w r at) (t : T (column r at j)) where
     -- One stage of row i.
     column-next :
         (k m : ℕ) → suc (k + m) ≡ r → ((i : ℕ) → In k (suc m) i → Good (b↓ r at j k i)) → (i : ℕ) → In (suc k) m i → (b : ℕ → ℕ)
         → Eliminated
-        (stageRoundings (suc m)) (pivot k m (inUnits (at k) b)) (b↓ r at j k i) (at k .t i k) (b↓ r at j k k) (b↓ r at j (suc k) i)
+        (stageRoundings w (suc m)) (pivot k m (inUnits w (at k) b)) (weightUnits w k) (b↓ r at j k i) (at k .t i k) (b↓ r at j k k) (b↓ r at j (suc k) i)
     column-next k m e g i l b =
         by-order j k
         (λ c.
         rw (column-step r at j k i (le-leb j k c) (omega arith))
-        (place-step r at k m e (s .good k m e) (s .range k m e) i l (b↓ r at j k i) (b↓ r at j k k) (g i (later l)) (g k first)
+        (place-step w r gw at k m e (s .good k m e) (s .range k m e) i l (b↓ r at j k i) (b↓ r at j k k) (g i (later l)) (g k first)
         (column-down r at j r k i (downward-column r at j t) c (omega arith) (omega arith) (omega arith)) b))
         (λ c.
         rw (column-before r at j k (lt-leb j k c))
@@ -67,6 +67,6 @@ module _ (r : ℕ) (at : ℕ → System) (j : ℕ) where
 
     pub right-step :
         (k m : ℕ) → suc (k + m) ≡ r
-        → RightStep (stageRoundings (suc m)) k m
-        (inUnits (at k) (λ i. units (b↓ r at j k i))) (inUnits (at (suc k)) (λ i. units (b↓ r at j (suc k) i)))
+        → RightStep (stageRoundings w (suc m)) k m
+        (inUnits w (at k) (λ i. units (b↓ r at j k i))) (inUnits w (at (suc k)) (λ i. units (b↓ r at j (suc k) i)))
     right-step k m e i l = column-next k m e (column-good k m e) i l (λ i. units (b↓ r at j k i)) .near

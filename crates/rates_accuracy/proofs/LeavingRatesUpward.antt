@@ -1,6 +1,7 @@
--- The upward stages of one column, and its exact quotients b_i / p_i over one denominator, the product of the pivots.
+-- The upward stages of one column, and its exact quotients b_i / p_i, divided by the weights, over one denominator, the product of the
+-- pivots and the weights.
 use Prim.Native.Nat.{ℕ, zero, suc, _+_, _-_, _*_, _/_, _≤_, _<_}
-use mathlib.Core.Path.{_≡_, sym, ap, _∙_, subst}
+use mathlib.Core.Path.{_≡_, sym, ap, _∙_, subst, subst₂}
 use native.Mathlib.Nat.{mul-comm, mul-assoc, mul-left-comm, add-mul}
 use native.Mathlib.Omega.{arith}
 use lib.Dec.{T}
@@ -10,51 +11,39 @@ use Rattle.exact.specs.Near.{Near}
 use Rattle.exact.specs.Sums.{sum}
 use Rattle.exact.specs.Systems.{mix}
 use Rattle.exact.specs.Elimination.{pivot}
-use Rattle.exact.specs.Run.{rowCount}
-use Rattle.exact.proofs.Near.{near-refl, near-sym, near-trans, near-grow, near-scale, near-add, near-sum, near-sum-down}
+use Rattle.exact.proofs.Near.{near-refl, near-sym, near-trans, near-grow, near-scale, near-add, near-sum-down}
 use Rattle.exact.proofs.Sums.{first, sum-scale}
 use Rattle.exact.proofs.CommonDenominator.{product, over-product}
 use Rattle.definitions.specs.Numbers.{_⊕_, _⊗_, _⊘_, addProductInRange, units}
-use Rattle.definitions.specs.LeavingRates.{System, p, m↑, b↓, b↑, solved, quotient, column}
+use Rattle.definitions.specs.LeavingRates.{Weights, System, p, m↑, b↓, b↑, solved, quotient, column}
 use Rattle.rounding.specs.Good.{Good, one·units}
 use Rattle.rounding.proofs.Laws.{quotient-good, quotient-rounds}
 use Rattle.steps.proofs.LeavingRatesSteps.{upward-multiplier-is, upward-start, upward-step, solved-is, quotient-is}
-use Rattle.rates_accuracy.specs.LeavingRatesAccuracy.{inUnits, Computed, rowRoundings}
+use Rattle.rates_accuracy.specs.LeavingRatesAccuracy.{weightUnits, inUnits, GoodWeights, Computed, rowRoundings}
 use Rattle.rates_accuracy.proofs.LeavingRatesRange.{upward-column, column-up, last-division}
-use Rattle.rates_accuracy.proofs.OperationErrors.{AddsProduct, adds-product}
+use Rattle.rates_accuracy.proofs.OperationErrors.{AddsProduct, adds-product, termRoundings, near-terms}
 use Rattle.rates_accuracy.proofs.LeavingRatesStages.{Shared}
-use Rattle.rates_accuracy.proofs.PivotErrors.{pivot-good, pivot-near}
+use Rattle.rates_accuracy.proofs.PivotErrors.{pivot-good, pivot-near, row-count}
 use Rattle.rates_accuracy.proofs.LeavingRatesColumn.{column-good}
 
 -- A factor c that makes one denominator d of another, q.
 pub near-over : {e d : ℕ} (q c x a b : ℕ) → q * c ≡ d → Near e (x * q) (a * b) → Near e (x * d) (a * (b * c))
 near-over q c x a b e n = rw (← e, ← (mul-assoc x q c), ← (mul-assoc a b c)) (near-scale c n)
 
--- A sum of terms within two roundings; where there is none, within none.
-termRoundings : ℕ → ℕ
-termRoundings zero = zero
-termRoundings (suc m) = 2
+-- One denominator for the exact quotients over the weights: the product of the pivots and the weights.
+module _ (w : Weights) (r : ℕ) (at : ℕ → System) where
+  -- A pivot times its weight.
+  abbrev pub divisor : ℕ → ℕ
+  divisor l = units (p r at l) * weightUnits w l
 
-near-terms : (f g : ℕ → ℕ) (k m : ℕ) → ((i : ℕ) → In k m i → Near 2 (f i) (g i)) → Near (termRoundings m) (sum f k m) (sum g k m)
-unfolding termRoundings sum
-near-terms f g k zero h = near-refl
-near-terms f g k (suc m) h = near-sum f g k (suc m) h
-
-row-count : (m : ℕ) → m + (m + termRoundings m) ≤ rowRoundings (suc m)
-unfolding termRoundings rowRoundings rowCount
-row-count zero = omega arith
-row-count (suc m) = omega arith
-
--- One denominator for the exact quotients: the product of the pivots.
-module _ (r : ℕ) (at : ℕ → System) where
   unfoldable pub denominator : ℕ
-  denominator = product (λ l. units (p r at l)) zero r
+  denominator = product divisor zero r
 
-  pub cofactor : (l : ℕ) → l < r → units (p r at l) * (denominator / units (p r at l)) ≡ denominator
+  pub cofactor : (l : ℕ) → l < r → divisor l * (denominator / divisor l) ≡ denominator
   unfolding denominator
-  cofactor l h = over-product (λ l. units (p r at l)) zero r l (omega arith)
+  cofactor l h = over-product divisor zero r l (omega arith)
 
-module _ (r : ℕ) (at : ℕ → System) (j : ℕ) where
+module _ (w : Weights) (r : ℕ) (at : ℕ → System) (j : ℕ) where
   -- Stage l comes after q upward stages, where l + q + 1 = r.
   upward-next :
       (q l i : ℕ) → suc (l + q) ≡ r → i < r
@@ -79,21 +68,25 @@ module _ (r : ℕ) (at : ℕ → System) (j : ℕ) where
   unfolding running
   running-start k h = ap (λ q. b↑ r at j q k) (omega arith) ∙ upward-start r at j k h
 
-  -- The exact quotient of row l is `answer l` over the denominator.
+  -- The exact quotient of row l, divided by its weight, is `answer l` over the denominator.
+  abbrev q : ℕ → ℕ
+  q = divisor w r at
+
+  abbrev D : ℕ
+  D = denominator w r at
+
   unfoldable pub answer : ℕ → ℕ
-  answer l = units (solved r at j l) * (denominator r at / units (p r at l))
+  answer l = units (solved r at j l) * (D / q l)
 
-  answer-is : (l : ℕ) → l < r → units (p r at l) * answer l ≡ units (solved r at j l) * denominator r at
+  answer-is : (l : ℕ) → l < r → q l * answer l ≡ units (solved r at j l) * D
   unfolding answer
-  answer-is l h =
-      mul-left-comm (units (p r at l)) (units (solved r at j l)) (denominator r at / units (p r at l))
-      ∙ ap (λ x. units (solved r at j l) * x) (cofactor r at l h)
+  answer-is l h = mul-left-comm (q l) (units (solved r at j l)) (D / q l) ∙ ap (λ x. units (solved r at j l) * x) (cofactor w r at l h)
 
-  module _ (s : Shared r at) (t : T (column r at j)) where
+  module _ (gw : GoodWeights r w) (s : Shared w r at) (t : T (column r at j)) where
     pub pivots-good : (l : ℕ) → l < r → Good (p r at l)
     pivots-good l h =
         let e : suc (l + (r - suc l)) ≡ r = omega arith in
-        pivot-good r at l (r - suc l) e (s .good l (r - suc l) e) (s .range l (r - suc l) e .pivot)
+        pivot-good w r gw at l (r - suc l) e (s .good l (r - suc l) e) (s .range l (r - suc l) e .pivot)
 
     upward-adds :
         (q l i : ℕ) → suc (l + q) ≡ r → i < l → Good (b↑ r at j q i) → Good (b↑ r at j q l)
@@ -108,7 +101,7 @@ module _ (r : ℕ) (at : ℕ → System) (j : ℕ) where
 
     upward-good : (q i : ℕ) → i + q < r → Good (b↑ r at j q i)
     upward-good zero i h =
-        rw (upward-start r at j i (omega arith)) (column-good r at j s t i (r - suc i) (omega arith) i first)
+        rw (upward-start r at j i (omega arith)) (column-good r at j w gw s t i (r - suc i) (omega arith) i first)
     upward-good (suc q) i h =
         let l = r - suc q in
         let e : suc (l + q) ≡ r = omega arith in
@@ -151,42 +144,44 @@ module _ (r : ℕ) (at : ℕ → System) (j : ℕ) where
         let last : running k (suc k + m) ≡ b↓ r at j k k = ap (running k) (omega arith) ∙ running-start k (omega arith) in
         rw (running-solved k, last) at near
 
-    -- Row k of the exact quotients: each product has two roundings more, and the pivot as many as there are stages after it.
-    term-over : (k l : ℕ) → k < l → l < r → Near 2 (units (term k l) * denominator r at) (units (at k .t k l) * answer l)
+    -- Row k of the exact quotients: each product has two roundings more, and the pivot its own.
+    term-over : (k l : ℕ) → k < l → l < r → Near 2 (units (term k l) * D) (units (at k .t k l) * weightUnits w l * answer l)
     unfolding answer
     term-over k l h n =
-        near-over (units (p r at l)) (denominator r at / units (p r at l)) (units (term k l)) (units (at k .t k l)) (units (solved r at j l))
-        (cofactor r at l n) (product-near k l h n)
+        near-over (q l) (D / q l) (units (term k l)) (units (at k .t k l) * weightUnits w l) (units (solved r at j l))
+        (cofactor w r at l n) (subst₂ (Near 2) (omega arith) (omega arith) (near-scale (weightUnits w l) (product-near k l h n)))
 
     sum-over :
         (k m : ℕ) → suc (k + m) ≡ r
-        → Near (termRoundings m) (sum (λ l. units (term k l)) (suc k) m * denominator r at) (sum (λ l. units (at k .t k l) * answer l) (suc k) m)
+        → Near (termRoundings 2 m) (sum (λ l. units (term k l)) (suc k) m * D) (sum (λ l. units (at k .t k l) * weightUnits w l * answer l) (suc k) m)
     sum-over k m e =
-        rw (← (sum-scale (λ l. units (term k l)) (denominator r at) (suc k) m))
-        (near-terms (λ l. units (term k l) * denominator r at) (λ l. units (at k .t k l) * answer l) (suc k) m
+        rw (← (sum-scale (λ l. units (term k l)) D (suc k) m))
+        (near-terms 2 (λ l. units (term k l) * D) (λ l. units (at k .t k l) * weightUnits w l * answer l) (suc k) m
         (λ l h. term-over k l (omega arith) (omega arith)))
 
     pub row-near :
         (b : ℕ → ℕ) (k m : ℕ) → suc (k + m) ≡ r
-        → Near (rowRoundings (suc m)) (pivot k m (inUnits (at k) b) * answer k)
-        (units (b↓ r at j k k) * denominator r at + mix (suc k) m (inUnits (at k) b k) answer)
+        → Near (rowRoundings w (suc m)) (pivot k m (inUnits w (at k) b) * answer k)
+        (units (b↓ r at j k k) * D + mix (suc k) m (inUnits w (at k) b k) answer)
     unfolding mix
     row-near b k m e =
-        let own = near-scale (answer k) (near-sym (pivot-near r at k m e (s .good k m e) (s .range k m e .pivot) b)) in
-        let added = near-scale (denominator r at) (solved-near k m e) in
-        let terms = near-add (near-refl {x = units (b↓ r at j k k) * denominator r at}) (sum-over k m e) in
-        near-grow (row-count m)
+        let own = near-scale (answer k) (near-sym (pivot-near r at k m e (s .range k m e .pivot) b w gw (s .good k m e))) in
+        let added = near-scale D (solved-near k m e) in
+        let terms = near-add (near-refl {x = units (b↓ r at j k k) * D}) (sum-over k m e) in
+        near-grow (row-count w m)
         (near-trans (rw (answer-is k (omega arith)) at own) (near-trans (rw add-mul at added) terms))
 
     -- The last division has one rounding.
-    pub last-quotient : (i : ℕ) → i < r → Computed 1 (quotient r at i j) (answer i) (denominator r at)
+    pub last-quotient : (i : ℕ) → i < r → Computed 1 (quotient r at i j) (answer i * weightUnits w i) D
     unfolding answer
     last-quotient i h =
         let x = solved r at j i in
         let gx = solved-good i h in
         let gp = pivots-good i h in
         let d = last-division r at j t i h in
-        let swapped = rw (mul-comm (units x) one·units) at (quotient-rounds x (p r at i) gx gp d .near) in
-        let over = near-over (units (p r at i)) (denominator r at / units (p r at i)) (units (x ⊘ p r at i)) one·units (units x) (cofactor r at i h) swapped in
+        let W = weightUnits w i in
+        let over : Near 1 (units (x ⊘ p r at i) * D) (one·units * W * (units x * (D / q i))) =
+        near-over (q i) (D / q i) (units (x ⊘ p r at i)) (one·units * W) (units x) (cofactor w r at i h)
+        (subst₂ (Near 1) (omega arith) (omega arith) (near-scale W (quotient-rounds x (p r at i) gx gp d .near))) in
         rw (quotient-is r at i j)
-        (record { good = quotient-good gx gp d; near = rw (mul-comm one·units (units x * (denominator r at / units (p r at i)))) at over })
+        (record { good = quotient-good gx gp d; near = subst (Near 1 (units (x ⊘ p r at i) * D)) (omega arith) over })

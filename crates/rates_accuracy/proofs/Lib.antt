@@ -1,5 +1,5 @@
 pub mod OperationErrors
-mod PivotErrors
+pub mod PivotErrors
 pub mod LeavingRatesRange
 pub mod LeavingRatesStages
 mod LeavingRatesColumn

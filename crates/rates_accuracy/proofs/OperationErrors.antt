@@ -1,29 +1,29 @@
 -- The compound operations of the steps, counted in roundings: x + (t / p)·y, and sums.
 use Prim.Native.Nat.{ℕ, zero, suc, _+_, _*_}
 use mathlib.Core.Path.{_≡_, sym, ap, _∙_}
-use native.Mathlib.Nat.{add-zero}
+use native.Mathlib.Nat.{add-zero, mul-assoc, mul-right-comm}
 use native.Mathlib.Omega.{arith}
 use lib.Dec.{T}
 use lib.Ieee.{Float}
 use Rattle.exact.specs.Chains.{In}
 use Rattle.exact.specs.Near.{Near}
 use Rattle.exact.specs.Sums.{sum as total}
-use Rattle.exact.proofs.Near.{near-eq, near-addition, near-term, near-step}
+use Rattle.exact.proofs.Near.{near-refl, near-eq, near-scale, near-sum, near-addition, near-term, near-step}
 use Rattle.exact.proofs.Sums.{sum-last}
 use Rattle.definitions.specs.Numbers.{_⊕_, _⊗_, _⊘_, 0·0, addInRange, divInRange, addProductInRange, sum, sumInRange, units}
-use Rattle.rounding.specs.Good.{Good}
+use Rattle.rounding.specs.Good.{Good, one·units}
 use Rattle.rounding.proofs.RoundedSums.{range-before, range-last, sum-is-good}
 use Rattle.rounding.proofs.Laws.{one-pos, zero-is-good, sum-good, sum-rounds, product-good, product-rounds, quotient-good, quotient-rounds}
 use Rattle.rounding.proofs.Zeros.{zero-plus}
 use Rattle.steps.proofs.AddProduct.{product-of-step, addition-of-step}
 
--- x + (t / p)·y: the product has two roundings, the sum one more, so the whole has three more than the pivot p has against
--- the exact pivot P.
+-- x + (t / p)·y: the product has two roundings, the sum one more, so the whole has three more than the pivot p, times its weight W,
+-- has against the exact pivot P.
 pub record AddsProduct (x t p y : Float) : Type 0 where
   pub good : Good (x ⊕ t ⊘ p ⊗ y)
   pub product : Near 2 (units (t ⊘ p ⊗ y) * units p) (units t * units y)
   pub addition : Near 1 (units (x ⊕ t ⊘ p ⊗ y)) (units x + units (t ⊘ p ⊗ y))
-  pub whole : {e P : ℕ} → Near e P (units p) → Near (e + 3) (units (x ⊕ t ⊘ p ⊗ y) * P) (units x * P + units t * units y)
+  pub whole : (W : ℕ) {e P : ℕ} → Near e P (units p * W) → Near (e + 3) (units (x ⊕ t ⊘ p ⊗ y) * P) (units x * P + units t * W * units y)
 
 pub adds-product :
     (x t p y : Float) → Good x → Good t → Good p → Good y
@@ -39,8 +39,21 @@ adds-product x t p y gx gt gp gy d a =
       good = sum-good gx gv (addition-of-step x m y a);
       product = near-term (units p) (units m) (units (m ⊗ y)) (units t) (units y) one-pos division multiplication;
       addition = addition;
-      whole = λ h. near-step (units m) (units (m ⊗ y)) (units t) (units x) (units y) one-pos h division multiplication addition;
+      whole =
+          λ W h.
+          near-step (units m) (units (m ⊗ y)) (units t * W) (units x) (units y) one-pos h
+          (rw (mul-assoc (units m) (units p) W, mul-right-comm (units t) one·units W) at (near-scale W division)) multiplication addition;
     }
+
+-- A sum of terms within e roundings; where there is none, within none.
+abbrev pub termRoundings : ℕ → ℕ → ℕ
+termRoundings e zero = zero
+termRoundings e (suc m) = e
+
+pub near-terms : (e : ℕ) (f g : ℕ → ℕ) (k m : ℕ) → ((i : ℕ) → In k m i → Near e (f i) (g i)) → Near (termRoundings e m) (total f k m) (total g k m)
+unfolding total
+near-terms e f g k zero h = near-refl
+near-terms e f g k (suc m) h = near-sum f g k (suc m) h
 
 -- A sum has a rounding for each addition.
 module _ (start : Float) (f : ℕ → Float) (k : ℕ) (g : Good start) where

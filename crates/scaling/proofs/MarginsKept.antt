@@ -3,7 +3,7 @@ use Prim.Native.Nat.{ℕ, suc, _-_, _≤_, _<_}
 use native.Mathlib.Omega.{arith}
 use mathlib.Core.Bool.{Bool, true}
 use mathlib.Core.Logic.{_≢_}
-use mathlib.Core.Path.{_≡_, _∙_}
+use mathlib.Core.Path.{_≡_, sym, _∙_, subst}
 use lib.Dec.{T}
 use lib.Ieee.{Float}
 use Rattle.definitions.specs.Numbers.{_⊗_, _⊘_, 0·0, sum}
@@ -13,9 +13,10 @@ use Rattle.definitions.specs.Margins.{kBefore, a, kept, keptSystem, y, xAfter}
 use Rattle.rounding.specs.Scaling.{Scaled}
 use Rattle.rounding.proofs.Laws.{quotient-good}
 use Rattle.steps.proofs.CompactOrder.{list-alike, rank-alike, rank-below, listed}
-use Rattle.steps.proofs.MarginsSteps.{kept-size, kept-exit, y-is, x-start}
+use Rattle.steps.proofs.MarginsSteps.{kept-size, kept-exit, kept-weights, y-is, x-start}
 use Rattle.rates_accuracy.proofs.CompactEquations.{stage, stage-apart}
 use Rattle.rates_accuracy.proofs.LeavingRatesRange.{table-shared, table-column}
+use Rattle.rates_accuracy.specs.LeavingRatesAccuracy.{GoodWeights}
 use Rattle.scaling.specs.Scaling.{ScaledSystem, QuotientsScale}
 use Rattle.scaling.proofs.ScaledNumbers.{zero-scaled, same-ratio, product-scaled, factor-scaled, sum-scaled}
 use Rattle.scaling.proofs.LeavingRates.{quotients-scale}
@@ -83,6 +84,7 @@ module _ {c n : ℕ} {t t' : ℕ → ℕ → Float} {d d' : ℕ → Float} (both
             (let bp : p < rank on n = omega arith in
             let lp = listed on n p bp in
             rw (kept-exit n t d k p bp, kept-exit n t' d' k' p (omega arith), lists) (new-exit (stage on n p) (lp .below) (lp .passes)));
+        weights = kept-weights n t' d' k' ∙ sym (kept-weights n t d k);
       }
 
   y-scaled : (i j : ℕ) → i < n → j < n → on i ≡ true → on j ≡ true → Scaled c (y n t' d' k' i j) (y n t d k i j)
@@ -97,7 +99,7 @@ module _ {c n : ℕ} {t t' : ℕ → ℕ → Float} {d d' : ℕ → Float} (both
       let q = rank on j in
       let h = rank-below on n j bj kj in
       rw (y-is n t d k i j, y-is n t' d' k' i j, ranks n (omega arith), ranks i (omega arith), ranks j (omega arith))
-      (quotients-scale c r q start start' system-scaled
+      (quotients-scale c r q start start' (subst (GoodWeights r) (sym (kept-weights n t d k)) tt) system-scaled
       (table-shared r at (both .range .engine)) (table-column r at (both .range .engine) q h)
       (table-shared r at' engine') (table-column r at' engine' q h)
       (rank on i) (rank-below on n i bi ki))

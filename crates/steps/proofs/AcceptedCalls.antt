@@ -9,7 +9,7 @@ use lib.IntN.{ℤ}
 use lib.ListN.{length}
 use lib.Ieee.{Float}
 use Rattle.definitions.specs.Table.{everyStepInRange}
-use Rattle.definitions.specs.Questions.{Asked, pass, ask, _then_, question1, sizeQuestions, shapeQuestions, question4, question5, question10, numberQuestions, tableInput, tableQuestions, entryInput, entryQuestions}
+use Rattle.definitions.specs.Questions.{Asked, pass, ask, _then_, knownReading, question1, sizeQuestions, shapeQuestions, question4, question5, question10, numberQuestions, tableInput, tableQuestions, entryInput, entryQuestions}
 use Rattle.definitions.specs.Column.{columnReading, columnShape, columnInput, columnInRange, columnQuestions}
 use Rattle.definitions.specs.Prices.{question18, question19, priceShape, priceInput, pricesInRange, priceQuestions}
 use Rattle.steps.proofs.QuestionLaws.{then-first, then-next, ask-yes, reading-passed, one-stage}
@@ -49,13 +49,13 @@ price-known reading n e sheet given room q =
 -- A column is of reading 1, and of a stage of the sheet.
 module _ (reading n : ℕ) (e : ℤ) (sheet : List Float) (room stage : ℕ) (q : columnInput reading n e sheet room stage ≡ pass) where
   pub column-known : KnownSheet 1 n sheet
-  unfolding columnInput question1
+  unfolding columnInput question1 knownReading
   column-known = record { first = refl; numbers = then-next (columnShape reading n e (length sheet) room stage) (numberQuestions 1 n sheet) q }
 
   pub column-stage : stage - 1 < n
   unfolding columnInput columnShape
   column-stage =
-      let size = sizeQuestions n e (length sheet) in
+      let size = sizeQuestions 1 n e (length sheet) in
       let own = question4 n room then question5 n stage stage in
       let shape = then-first (columnShape reading n e (length sheet) room stage) (numberQuestions 1 n sheet) q in
       let five = then-next (question4 n room) (question5 n stage stage) (then-next size own (then-next (columnReading reading) (size then own) shape)) in

@@ -14,26 +14,26 @@ use Rattle.definitions.specs.Prices.{priceShape, priceInput, priceQuestions, pr
 use Rattle.steps.specs.AnyUnit.{SameAnswers, SameInEveryUnit}
 
 module _ (reading n : ℕ) (e e' : ℤ) (in-range : T (exponentInRange e)) (in-range' : T (exponentInRange e')) where
-  same-size : (held : ℕ) → sizeQuestions n e held ≡ sizeQuestions n e' held
+  same-size : (reading held : ℕ) → sizeQuestions reading n e held ≡ sizeQuestions reading n e' held
   unfolding sizeQuestions question12
-  same-size held = rw (is-true (exponentInRange e) in-range, is-true (exponentInRange e') in-range')
+  same-size reading held = rw (is-true (exponentInRange e) in-range, is-true (exponentInRange e') in-range')
 
   module _ (sheet : List Float) where
     same-table : (room : ℕ) → tableQuestions reading n e sheet room ≡ tableQuestions reading n e' sheet room
     unfolding tableQuestions tableInput shapeQuestions
-    same-table room = rw (same-size (length sheet))
+    same-table room = rw (same-size reading (length sheet))
 
     same-entry : (i j : ℕ) → entryQuestions reading n e sheet i j ≡ entryQuestions reading n e' sheet i j
     unfolding entryQuestions entryInput shapeQuestions
-    same-entry i j = rw (same-size (length sheet))
+    same-entry i j = rw (same-size reading (length sheet))
 
     same-column : (room stage : ℕ) → columnQuestions reading n e sheet room stage ≡ columnQuestions reading n e' sheet room stage
     unfolding columnQuestions columnInput columnShape
-    same-column room stage = rw (same-size (length sheet))
+    same-column room stage = rw (same-size 1 (length sheet))
 
     same-prices : (given : List Float) (room : ℕ) → priceQuestions reading n e sheet given room ≡ priceQuestions reading n e' sheet given room
     unfolding priceQuestions priceInput priceShape shapeQuestions
-    same-prices given room = rw (same-size (length sheet))
+    same-prices given room = rw (same-size reading (length sheet))
 
     same-answers : SameAnswers reading n e e' sheet
     unfolding tableAnswer tableArea entryAnswer columnAnswer columnArea priceAnswer priceArea

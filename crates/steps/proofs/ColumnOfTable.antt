@@ -1,5 +1,5 @@
 -- Where the whole table of reading 1 is accepted, each of its columns is, with the same numbers.
-use mathlib.Core.Path.{_≡_, sym, _∙_}
+use mathlib.Core.Path.{_≡_, refl, sym, _∙_}
 use Prim.Native.Nat.{ℕ, _*_, _-_, _≤_, _<_}
 use native.Mathlib.Omega.{arith}
 use mathlib.Core.Bool.{_&&_, _||_}
@@ -18,7 +18,7 @@ use Rattle.definitions.specs.Compact.{rank}
 use Rattle.definitions.specs.Sheet.{place, takesPart}
 use Rattle.definitions.specs.Tables.{list, rows}
 use Rattle.definitions.specs.Table.{liveCount, liveSystem, liveBegun, entry, everyStepInRange}
-use Rattle.definitions.specs.Questions.{pass, _then_, question1, question4, question5, sizeQuestions, shapeQuestions, question10, numberQuestions, tableInput, tableQuestions}
+use Rattle.definitions.specs.Questions.{pass, _then_, knownReading, question1, question4, question5, sizeQuestions, shapeQuestions, question10, numberQuestions, tableInput, tableQuestions}
 use Rattle.definitions.specs.Services.{table, tableArea}
 use Rattle.definitions.specs.Column.{columnReading, columnShape, columnInput, columnOf, columnInRange, columnQuestions, stageColumn, columnArea}
 use Rattle.steps.specs.ColumnOfTable.{ColumnOfTable}
@@ -36,10 +36,10 @@ module _ (n : ℕ) (e : ℤ) (sheet : List Float) (room : ℕ) (accepted : table
   its-sheet : AcceptedSheet 1 n sheet (everyStepInRange 1 n sheet)
   its-sheet = table-accepted 1 n e sheet room accepted
 
-  its-size : sizeQuestions n e (length sheet) ≡ pass
-  unfolding tableQuestions tableInput shapeQuestions question1
+  its-size : sizeQuestions 1 n e (length sheet) ≡ pass
+  unfolding tableQuestions tableInput shapeQuestions question1 knownReading
   its-size =
-      then-first (sizeQuestions n e (length sheet)) (question4 (n * n) room then numberQuestions 1 n sheet)
+      then-first (sizeQuestions 1 n e (length sheet)) (question4 (n * n) room then numberQuestions 1 n sheet)
       (then-first (tableInput 1 n e sheet room) (question10 1 n sheet) accepted)
 
   module _ (r : ℕ) (at : ℕ → System) (t : T (inRange r at)) where
@@ -59,12 +59,12 @@ module _ (n : ℕ) (e : ℤ) (sheet : List Float) (room : ℕ) (accepted : table
   in-range : (j : ℕ) → j < n → T (columnInRange n sheet j)
   unfolding columnInRange liveBegun inRange
   in-range j l =
-      let r = liveCount n sheet in
-      let at = downward r (liveSystem n sheet) in
-      let t = rw (steps-in-range n sheet) at (its-sheet .in-range) in
+      let r = liveCount 1 n sheet in
+      let at = downward r (liveSystem 1 n sheet) in
+      let t = rw (steps-in-range 1 n sheet refl) at (its-sheet .in-range) in
       and-i (shared r at) (column r at (columnOf n sheet j)) (and-l (shared r at) (all (column r at) 0 r) t)
       (by-bool (takesPart 1 n sheet j)
-      (λ on. rw (column-of-live n sheet j on) (its-column r at t (rank (takesPart 1 n sheet) j) (rw (live-count n sheet) (rank-below (takesPart 1 n sheet) n j l on))))
+      (λ on. rw (column-of-live n sheet j on) (its-column r at t (rank (takesPart 1 n sheet) j) (rw (live-count 1 n sheet) (rank-below (takesPart 1 n sheet) n j l on))))
       (λ off. rw (column-of-idle n sheet j off) (no-column r at t)))
 
   column-accepted : (free stage : ℕ) → 1 ≤ stage → stage ≤ n → n ≤ free → columnQuestions 1 n e sheet free stage ≡ pass

@@ -11,9 +11,10 @@ use lib.ListN.{length, getD, length-append, List·getD-append}
 use lib.Seq.{getD-at}
 use Rattle.exact.proofs.Cases.{by-bool}
 use Rattle.definitions.specs.Numbers.{0·0}
-use Rattle.definitions.specs.LeavingRates.{System}
-use Rattle.definitions.specs.Compact.{stagesWith, rank, compact}
+use Rattle.definitions.specs.LeavingRates.{Weights, none, some, System}
+use Rattle.definitions.specs.Compact.{stagesWith, rank, weightsOf, compact}
 use Rattle.steps.proofs.TableLaws.{stored-at, storedTable-at}
+use Rattle.steps.proofs.Weights.{SameWeights}
 
 module _ (test : ℕ → Bool) where
   pub list-take : (n : ℕ) → test n ≡ true → stagesWith test (suc n) ≡ stagesWith test n ++ (n ∷ [])
@@ -116,6 +117,15 @@ module _ (test : ℕ → Bool) where
       (n : ℕ) (a : System) (p : ℕ) → p < rank test n → compact (stagesWith test n) a .s p ≡ a .s (getD (stagesWith test n) p 0)
   unfolding compact rank
   compact-exit n a p bp = let s = stagesWith test n in stored-at 0·0 (length s) (λ i. a .s (getD s i 0)) p bp
+
+  pub compact-weights : (n : ℕ) (a : System) → compact (stagesWith test n) a .z ≡ weightsOf (stagesWith test n) (a .z)
+  unfolding compact
+  compact-weights n a = refl
+
+  -- Where every stage passes, the weights are those of the stages themselves.
+  pub weights-every : (n : ℕ) → ((i : ℕ) → i < n → test i ≡ true) → (w : Weights) → SameWeights n (weightsOf (stagesWith test n) w) w
+  weights-every n h none = tt
+  weights-every n h (some z) = λ j l. ap z (stage-every n h j l)
 
   -- The stage at each place of the list: below n, passes the test, and has that place as its rank.
   pub record Listed (n q i : ℕ) : Type 0 where

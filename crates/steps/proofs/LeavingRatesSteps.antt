@@ -6,7 +6,7 @@ use native.Mathlib.Omega.{arith}
 use lib.Dec.{leb, eqb}
 use borrow.Author.Tests.{lt-leb}
 use Rattle.definitions.specs.Numbers.{_⊕_, _⊗_, _⊘_, 0·0, 1·0}
-use Rattle.definitions.specs.LeavingRates.{System, laterSizes, pivot, multiplier, eliminate, begun, downward, p, u, m↓, m↑, b↓, b↑, solved, quotient}
+use Rattle.definitions.specs.LeavingRates.{System, laterSizes, overWeight, pivot, multiplier, eliminate, begun, downward, p, u, m↓, m↑, b↓, b↑, solved, quotient}
 use Rattle.steps.proofs.TableLaws.{stored-at, storedTable-at}
 
 module _ (r : ℕ) (start : System) where
@@ -23,8 +23,17 @@ module _ (r : ℕ) (start : System) where
   unfolding begun
   at-next k h = begun-at (suc k) h ∙ ap (λ a. eliminate r a k) (sym (begun-at k (omega arith)))
 
+  -- A stage keeps the weights.
+  begun-weights : (k : ℕ) → begun r start k .z ≡ start .z
+  unfolding begun eliminate
+  begun-weights zero = refl
+  begun-weights (suc k) = begun-weights k
+
+  pub weights-stay : (k : ℕ) → k < r → downward r start k .z ≡ start .z
+  weights-stay k h = ap (λ a. a .z) (begun-at k h) ∙ begun-weights k
+
 module _ (r : ℕ) (at : ℕ → System) where
-  pub pivot-is : (k : ℕ) → p r at k ≡ laterSizes r (at k) k ⊕ at k .s k
+  pub pivot-is : (k : ℕ) → p r at k ≡ overWeight (at k .z) k (laterSizes r (at k) k ⊕ at k .s k)
   unfolding p pivot
   pivot-is k = refl
 
@@ -46,6 +55,10 @@ module _ (r : ℕ) (at : ℕ → System) where
     pub exit-step : (i : ℕ) → i < r → at (suc k) .s i ≡ at k .s i ⊕ m↓ r at k i ⊗ at k .s k
     unfolding eliminate m↓
     exit-step i hi = ap (λ a. a .s i) next ∙ stored-at 0·0 r (λ i. at k .s i ⊕ multiplier r (at k) k i ⊗ at k .s k) i hi
+
+    pub weights-step : at (suc k) .z ≡ at k .z
+    unfolding eliminate
+    weights-step = ap (λ a. a .z) next
 
   -- Column j of b.
   pub column-start : (j i : ℕ) → b↓ r at j 0 i ≡ cond (eqb i j) 1·0 0·0

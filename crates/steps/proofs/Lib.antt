@@ -1,5 +1,6 @@
 pub mod TableLaws
 pub mod LeavingRatesSteps
+pub mod Weights
 pub mod Pivot
 pub mod Same
 pub mod Sizes

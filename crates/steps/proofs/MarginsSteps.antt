@@ -10,12 +10,12 @@ use lib.Ieee.{Float}
 use borrow.Author.Tests.{eq-eqb, ne-eqb, le-leb, lt-leb}
 use Rattle.exact.proofs.Cases.{by-order}
 use Rattle.definitions.specs.Numbers.{_⊕_, _⊗_, _⊘_, 0·0, 1·0, sum, isZero}
-use Rattle.definitions.specs.LeavingRates.{downward, quotient}
+use Rattle.definitions.specs.LeavingRates.{none, downward, quotient}
 use Rattle.definitions.specs.Compact.{stagesWith, rank}
 use Rattle.definitions.specs.Margins.{sumWith, hOf, kBefore, h, a, kept, scaled, keptSystem, y, known, joined, xAfter, entry}
 use Rattle.steps.proofs.TableLaws.{stored-at, storedTable-at}
 use Rattle.steps.proofs.FloatSums.{sum-same}
-use Rattle.steps.proofs.CompactOrder.{compact-size, compact-exit}
+use Rattle.steps.proofs.CompactOrder.{compact-size, compact-exit, compact-weights}
 
 module _ (n : ℕ) (t : ℕ → ℕ → Float) (d : ℕ → Float) where
   -- The k_j as they become known: the newest one, and the earlier ones as they were.
@@ -85,6 +85,10 @@ module _ (n : ℕ) (t : ℕ → ℕ → Float) (d : ℕ → Float) (k : ℕ → 
       ≡ (let i = getD (stagesWith (kept n t d k) n) p 0 in sum 0·0 (λ j. t i j ⊗ (d j ⊘ a n t d k j)) (suc i) (n - suc i))
   unfolding keptSystem scaled
   kept-exit p bp = compact-exit (kept n t d k) n (scaled n t d k) p bp
+
+  pub kept-weights : keptSystem n t d k .z ≡ none
+  unfolding keptSystem scaled
+  kept-weights = compact-weights (kept n t d k) n (scaled n t d k)
 
   pub y-is :
       (i j : ℕ)

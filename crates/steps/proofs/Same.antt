@@ -1,4 +1,4 @@
--- Systems that agree off the diagonal and in their leaving rates have the same pivots, multipliers, quotients and tests.
+-- Systems that agree off the diagonal, in their leaving rates and in their weights have the same pivots, multipliers, quotients and tests.
 use mathlib.Core.Path.{_≡_, sym, ap, ap₂, _∙_}
 use Prim.Native.Nat.{ℕ, zero, suc, _+_, _-_, _≤_, _<_}
 use native.Mathlib.Omega.{arith}
@@ -12,6 +12,7 @@ use Rattle.exact.proofs.Cases.{by-equal, by-order}
 use Rattle.steps.proofs.All.{all-same}
 use Rattle.steps.proofs.AddProduct.{step-same, step-test-same}
 use Rattle.steps.proofs.TableLaws.{stored-at, storedTable-at}
+use Rattle.steps.proofs.Weights.{SameWeights, weights-then}
 use Rattle.steps.proofs.Pivot.{pivot-same, pivot-in-range-same}
 use Rattle.steps.proofs.LeavingRatesSteps.{begun-at, column-start, column-before, column-step, upward-start, upward-step}
 
@@ -19,12 +20,14 @@ use Rattle.steps.proofs.LeavingRatesSteps.{begun-at, column-start, colu
 pub record Same (r k : ℕ) (a b : System) : Type 0 where
   pub sizes : (i j : ℕ) → k ≤ i → i < r → k ≤ j → j < r → (i ≡ j → ⊥) → a .t i j ≡ b .t i j
   pub exits : (i : ℕ) → k ≤ i → i < r → a .s i ≡ b .s i
+  pub weights : SameWeights r (a .z) (b .z)
 
 pub same-same : (r k : ℕ) (a b c : System) → Same r k a b → Same r k b c → Same r k a c
 same-same r k a b c x y =
     record {
       sizes = λ i j p₁ p₂ p₃ p₄ n. x .sizes i j p₁ p₂ p₃ p₄ n ∙ y .sizes i j p₁ p₂ p₃ p₄ n;
       exits = λ i p₁ p₂. x .exits i p₁ p₂ ∙ y .exits i p₁ p₂;
+      weights = weights-then r (a .z) (b .z) (c .z) (x .weights) (y .weights);
     }
 
 module _ (r k : ℕ) (a b : System) (h : Same r k a b) (hk : k < r) where
@@ -35,10 +38,10 @@ module _ (r k : ℕ) (a b : System) (h : Same r k a b) (hk : k < r) where
   row-same j l m = h .sizes k j (omega arith) hk (omega arith) m (λ e. omega arith)
 
   own-pivot : pivot r a k ≡ pivot r b k
-  own-pivot = pivot-same r k a b exit-same row-same
+  own-pivot = pivot-same r k a b hk exit-same row-same (h .weights)
 
   own-additions : pivotInRange r a k ≡ pivotInRange r b k
-  own-additions = pivot-in-range-same r k a b exit-same row-same
+  own-additions = pivot-in-range-same r k a b hk exit-same row-same (h .weights)
 
   multiplier-same : (i : ℕ) → k < i → i < r → multiplier r a k i ≡ multiplier r b k i
   unfolding multiplier
@@ -56,6 +59,7 @@ module _ (r k : ℕ) (a b : System) (h : Same r k a b) (hk : k < r) where
             stored-at 0·0 r (λ i. a .s i ⊕ multiplier r a k i ⊗ a .s k) i m
             ∙ step-same (h .exits i (omega arith) m) (multiplier-same i l m) (h .exits k (omega arith) hk)
             ∙ sym (stored-at 0·0 r (λ i. b .s i ⊕ multiplier r b k i ⊗ b .s k) i m);
+        weights = h .weights;
       }
 
 pub begun-same : (r : ℕ) (a b : System) → Same r 0 a b → (k : ℕ) → k ≤ r → Same r k (begun r a k) (begun r b k)
