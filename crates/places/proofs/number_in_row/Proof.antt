@@ -1,9 +1,6 @@
 -- `places::number_in_row` meets its contract. Assumes nothing.
-use Prim.Native.Nat.{_+_, _*_, _<_}
 use native.Mathlib.Omega.{arith}
 use borrow.Author.Needs.{needs}
-use denote.Ref.{now}
-use lib.ListN.{length}
 use Rattle.shape.proofs.Square.{row-inside, numbers-few}
 use Rattle.places.proofs.number_in_row.Statement.{statement}
 use Rattle.places.proofs.number_in_row.Tie as tie
