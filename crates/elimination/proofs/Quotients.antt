@@ -9,7 +9,7 @@ use lib.Ieee.{Float}
 use lib.Ieee.Fits.{and-i, and-l, and-r}
 use Rattle.exact.proofs.Bools.{same-truth, contrary}
 use Rattle.definitions.specs.Numbers.{finite, divInRange, addProductInRange, all}
-use Rattle.definitions.specs.LeavingRates.{System, downward, pivotInRange, p, u, m↓, b↓, solved, rowInRange, stageInRange, sharedBefore, shared, inRange}
+use Rattle.definitions.specs.LeavingRates.{Weights, System, downward, pivotInRange, p, u, m↓, b↓, solved, rowInRange, stageInRange, sharedBefore, shared, inRange}
 use Rattle.rounding.proofs.Finite.{quotient-of-range, dividend-of-range}
 use Rattle.steps.proofs.All.{each, each-below}
 use Rattle.steps.proofs.LeavingRatesSteps.{multiplier-is}
@@ -61,15 +61,15 @@ finite-same r e f same h i l j m = rw (← same i j l m) (h i l j m)
 pub upward-starts : {r : ℕ} {g f : ℕ → ℕ → Float} → PassStarts r true g f
 upward-starts = record { identity = λ e. absurd (contrary true refl e); multipliers = λ e. absurd (contrary true refl e) }
 
-module _ (r : ℕ) (f : ℕ → ℕ → Float) {t : List Float} {ok : Bool} (s : SharedTable r f ok t) where
+module _ (w : Weights) (r : ℕ) (f : ℕ → ℕ → Float) {t : List Float} {ok : Bool} (s : SharedTable w r f ok t) where
   at : ℕ → System
-  at = downward r (systemIn f)
+  at = downward r (systemIn w f)
 
   multipliers-finite : T ok → FiniteBelow r (table t)
   unfolding at
-  multipliers-finite e k i l m = rw (s .multipliers .below k i l m) (multiplier-finite r (downward r (systemIn f)) (rw (s .range) at e) k i l m)
+  multipliers-finite e k i l m = rw (s .multipliers .below k i l m) (multiplier-finite r (downward r (systemIn w f)) (rw (s .range) at e) k i l m)
 
-  pub out-of-range : ok ≡ false → {b : List Float} → IsTable b → QuotientTable r f false b
+  pub out-of-range : ok ≡ false → {b : List Float} → IsTable b → QuotientTable w r f false b
   unfolding inRange
   out-of-range e h =
       record {
@@ -90,20 +90,20 @@ module _ (r : ℕ) (f : ℕ → ℕ → Float) {t : List Float} {ok : Bool} (s :
         → PassDone r false (table t) (table b₁) down b₂
         → PassDone r true (table t) (table b₂) up b₃
         → Gives last (quotientsInRange r (table t) (table b₃)) b₄ (dividedRows r r (table t) (table b₃))
-        → QuotientTable r f (down && up && last) b₄
+        → QuotientTable w r f (down && up && last) b₄
     unfolding inRange at
     solved-table {b₂} {b₃} {b₄} h₂ h₃ h₄ =
         let g = table t in
         let m = s .multipliers in
-        let w = multipliers-finite (rw holds tt) in
-        let e₂ : (i j : ℕ) → i < r → j < r → table b₂ i j ≡ b↓ r at j i i = λ i j l k. h₂ .inside i j l k ∙ down-is r at g m w (table b₁) one i j l k in
+        let finite = multipliers-finite (rw holds tt) in
+        let e₂ : (i j : ℕ) → i < r → j < r → table b₂ i j ≡ b↓ r at j i i = λ i j l k. h₂ .inside i j l k ∙ down-is r at g m finite (table b₁) one i j l k in
         let e₃ : (i j : ℕ) → i < r → j < r → table b₃ i j ≡ solved r at j i = λ i j l k. h₃ .inside i j l k ∙ up-is r at g m (table b₂) e₂ i j l k in
         record {
           range =
               told-backwards (h₂ .told) (h₃ .told) (h₄ .range)
               (λ z. finite-same r (table b₂) (passed (turn r false) g (table b₁) r) (h₂ .inside) (start-finite (turns r true) g (table b₂) z))
               (λ z. finite-same r (table b₃) (passed (turn r true) g (table b₂) r) (h₃ .inside) (dividends-finite r g (table b₃) z))
-              ∙ ap₂ (λ x y. x && y) (ap₂ (λ x y. x && y) (down-test r at g m w (table b₁) one) (up-test r at g m (table b₂) e₂)) (last-test r at g m (table b₃) e₃)
+              ∙ ap₂ (λ x y. x && y) (ap₂ (λ x y. x && y) (down-test r at g m finite (table b₁) one) (up-test r at g m (table b₂) e₂)) (last-test r at g m (table b₃) e₃)
               ∙ columns-test r at
               ∙ rw (← s .range, holds);
           quotients = λ _ i j l k. ap (λ (x : ℕ → ℕ → Float). x i j) (h₄ .holds .is) ∙ last-is r at g m (table b₃) e₃ i j l k;
