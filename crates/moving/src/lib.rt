@@ -1,7 +1,7 @@
-// Moving a sheet to another time unit (document 02, U4 and U5): every number times 2^k, in a second lent area. The
-// service has no `requires`: its questions are asked in order, and a no ends the call with no place changed.
-ghost use Prim.Native.Nat.{_≤_};
-ghost use mathlib.Core.List.{map};
+// Moving a sheet to another time unit (document 02, U4, U5 and U10): every rate times 2^k and the weights as they are, in
+// a second lent area. The service has no `requires`: its questions are asked in order, and a no ends the call with no place changed.
+ghost use Prim.Native.Nat.{_+_, _≤_};
+ghost use mathlib.Core.List.{map, _++_};
 ghost use mathlib.Core.Path.{_≡_};
 ghost use lib.ListN.{length, getD};
 ghost use lib.Ieee.{nan};
@@ -9,21 +9,23 @@ ghost use Rattle.definitions.specs.Numbers.{_⊗_, all};
 ghost use Rattle.definitions.specs.Questions.{pass, ask};
 ghost use Rattle.definitions.specs.Services as services;
 ghost use Rattle.definitions.specs.Services.{filled};
-ghost use Rattle.definitions.specs.Moving.{sheetHasRoom, movedSheet};
+ghost use Rattle.definitions.specs.Moving.{timesPower};
 ghost use Rattle.answers.specs.Answers.{movedGiven};
 ghost use Rattle.rounding.specs.Scaling.{power};
 ghost use Rattle.rounding.specs.ResultRange.{sizeWithin};
-ghost use Rattle.moving.specs.Promises.{Movable, MoveDone};
+ghost use Rattle.moving.specs.Promises.{haveRoom, Movable, MoveDone};
 use answers::Moved;
+use shape::rates_of;
+use shape::weights_of;
 
 // Whether every number is zero, or of a size from `least` to `most`.
-fn sizes_within(least: f64, most: f64, sheet: &[f64]) -> bool
-    ensures { λ r. ⌜ r ≡ all (λ at. sizeWithin least most (getD (now (sheet .entry)) at nan)) 0 (length (now (sheet .entry))) ⌝ }
+fn sizes_within(least: f64, most: f64, numbers: &[f64]) -> bool
+    ensures { λ r. ⌜ r ≡ all (λ at. sizeWithin least most (getD (now (numbers .entry)) at nan)) 0 (length (now (numbers .entry))) ⌝ }
 {
     let mut good = true;
     let mut at = 0;
-    while at < sheet.len() {
-        good = good & rounding::size_within(least, most, sheet[at]);
+    while at < numbers.len() {
+        good = good & rounding::size_within(least, most, numbers[at]);
         at += 1;
     }
     good
@@ -31,41 +33,55 @@ fn sizes_within(least: f64, most: f64, sheet: &[f64]) -> bool
 
 // Question 16, of the exact products: instead of each number the limit that it moves towards is moved, which is exact,
 // and no product is rounded. The other limit holds already: a finite number is at most the largest, and question 8 passed.
-fn has_room(k: i64, power: f64, sheet: &[f64]) -> bool
-    requires { ⌜ Movable k power (now sheet) ⌝ }
-    ensures { λ r. ⌜ r ≡ sheetHasRoom k (now (sheet .entry)) ⌝ }
+fn has_room(k: i64, power: f64, numbers: &[f64]) -> bool
+    requires { ⌜ Movable k power (now numbers) ⌝ }
+    ensures { λ r. ⌜ r ≡ haveRoom k (now (numbers .entry)) ⌝ }
 {
     if k < 0 {
         return sizes_within(
             2.2250738585072014e-308 / power,
             1.7976931348623157e308,
-            sheet,
+            numbers,
         );
     }
-    sizes_within(0.0, 1.7976931348623157e308 / power, sheet)
+    sizes_within(0.0, 1.7976931348623157e308 / power, numbers)
 }
 
 // Every number times the power, in the first places of the area.
-fn times_power(power: f64, sheet: &[f64], area: &mut [f64])
-    requires { ⌜ length (now sheet) ≤ length (now area) ⌝ }
-    ensures { λ _. ⌜ now (area .exit) ≡ filled pass (map (λ number. number ⊗ power) (now (sheet .entry))) (now (area .entry)) ⌝ }
+fn times_power(power: f64, numbers: &[f64], area: &mut [f64])
+    requires { ⌜ length (now numbers) ≤ length (now area) ⌝ }
+    ensures { λ _. ⌜ now (area .exit) ≡ filled pass (map (λ number. number ⊗ power) (now (numbers .entry))) (now (area .entry)) ⌝ }
 {
     let mut i = 0;
-    while i < sheet.len() {
-        area[i] = sheet[i] * power;
+    while i < numbers.len() {
+        area[i] = numbers[i] * power;
         i += 1;
     }
 }
 
-// Question 16, and the moved numbers where it passes; where it does not, nothing is written.
-fn move_numbers(k: i64, sheet: &[f64], area: &mut [f64]) -> bool
-    requires { ⌜ Movable k (power k) (now sheet) × (length (now sheet) ≤ length (now area)) ⌝ }
-    ensures { λ r. ⌜ r ≡ sheetHasRoom k (now (sheet .entry)) ⌝ }
-    ensures { λ r. ⌜ now (area .exit) ≡ filled (ask r 16 0 0) (movedSheet k (now (sheet .entry))) (now (area .entry)) ⌝ }
+// The weights, in the first places of the area.
+fn copy(weights: &[f64], area: &mut [f64])
+    requires { ⌜ length (now weights) ≤ length (now area) ⌝ }
+    ensures { λ _. ⌜ now (area .exit) ≡ filled pass (now (weights .entry)) (now (area .entry)) ⌝ }
+{
+    let mut i = 0;
+    while i < weights.len() {
+        area[i] = weights[i];
+        i += 1;
+    }
+}
+
+// Question 16 of the rates; where it passes, the moved rates and then the weights, and elsewhere nothing is written.
+fn move_numbers(k: i64, rates: &[f64], weights: &[f64], area: &mut [f64]) -> bool
+    requires { ⌜ Movable k (power k) (now rates) × (length (now rates) + length (now weights) ≤ length (now area)) ⌝ }
+    ensures { λ r. ⌜ r ≡ haveRoom k (now (rates .entry)) ⌝ }
+    ensures { λ r. ⌜ now (area .exit) ≡ filled (ask r 16 0 0) (map (λ number. timesPower k number) (now (rates .entry)) ++ now (weights .entry)) (now (area .entry)) ⌝ }
 {
     let power = powers::power_of_two(k);
-    if has_room(k, power, sheet) {
-        times_power(power, sheet, area);
+    if has_room(k, power, rates) {
+        let count = rates.len();
+        times_power(power, rates, area);
+        copy(weights, &mut area[count..]);
         return true;
     }
     false
@@ -82,7 +98,7 @@ fn refused(number: usize) -> Moved
     }
 }
 
-// The sheet times 2^k, in the first n × n places of the area, and its unit.
+// The sheet with its rates times 2^k, in the first places of the area, and its unit.
 pub fn move_sheet(
     reading: usize,
     n: usize,
@@ -108,7 +124,7 @@ pub fn move_sheet(
     if !((-512 <= unit) & (unit <= 512)) {
         return refused(17);
     }
-    if !move_numbers(k, sheet, area) {
+    if !move_numbers(k, rates_of(n, sheet), weights_of(n, sheet), area) {
         return refused(16);
     }
     Moved::Sheet { e: unit }

@@ -13,7 +13,8 @@ use Rattle.exact.proofs.Bools.{holds}
 use Rattle.definitions.specs.Questions.{pass, exponentInRange}
 use Rattle.definitions.specs.Moving.{moveInput}
 use Rattle.answers.proofs.Outcome.{passed, refused}
-use Rattle.moving.proofs.Endings.{input-refused, exponent-refused, unit-refused, room-refused, moved-given, movable, fits-area, its-unit, unit-fits}
+use Rattle.shape.specs.Square.{Square}
+use Rattle.moving.proofs.Endings.{input-refused, exponent-refused, unit-refused, room-refused, moved-given, its-square, movable, fits-area, its-unit, unit-fits}
 use Rattle.moving.proofs.move_sheet.Statement.{statement}
 use Rattle.moving.proofs.move_sheet.Tie as tie
 
@@ -73,35 +74,49 @@ in-range c =
     let s = c .before .before .before .before .before .before .before in
     not-false (exponentInRange (s.args.e +ℤ s.args.k)) (rw (unit (c .before)) at (c .if3 .left))
 
+square : (c : tie.Else3) → let a = c .before .before .before .before .before .before .before .args in Square a.n (now a.sheet)
+square c =
+    let s = c .before .before .before .before .before .before .before in
+    its-square s.args.reading s.args.n s.args.e (now s.args.sheet) s.args.k (now s.args.area) (input (c .before .before))
+
 move-numbers-requires : tie.Need-move-numbers-requires
 move-numbers-requires c κs =
-    let other = c .before .before in
+    let weights = c .before in
+    let rates = weights .before in
+    let other = rates .before .before in
     let s = other .before .before .before .before .before .before in
-    let passed = input (other .before) in (
-      rw (toZ-ofZ w64 s.args.k s.fits.k) (movable s.args.reading s.args.n s.args.e (now s.args.sheet) s.args.k (now s.args.area) passed (holds (inside other))),
+    let passed = input (other .before) in
+    rw (toZ-ofZ w64 s.args.k s.fits.k, rates .rates-of .ensures, weights .weights-of .ensures) (
+      movable s.args.reading s.args.n s.args.e (now s.args.sheet) s.args.k (now s.args.area) passed (holds (inside other)),
       fits-area s.args.reading s.args.n s.args.e (now s.args.sheet) s.args.k (now s.args.area) passed,
     )
 
 returns-4 : tie.Need-returns-4
 returns-4 c =
     let moved = c .before .before .before .before in
-    let last = moved .before .before in
+    let weights = moved .before .before in
+    let rates = weights .before in
+    let last = rates .before in
     let other = last .before in
     let s = other .before .before .before .before .before .before in
     let same = toZ-ofZ w64 s.args.k s.fits.k in
+    let done = rw (same, rates .rates-of .ensures, weights .weights-of .ensures) at (moved .move-numbers .ensures) in
     room-refused s.args.reading s.args.n s.args.e (now s.args.sheet) s.args.k (now s.args.area) (input (other .before)) (inside other) (in-range last)
-    (rw same at (moved .move-numbers .ensures .0)) (rw same at (moved .move-numbers .ensures .1)) (c .refused3 .ensures) (not-true (moved .move-numbers .result) (c .before .if4 .taken))
+    (done .0) (done .1) (c .refused3 .ensures) (not-true (moved .move-numbers .result) (c .before .if4 .taken))
 
 returns-5 : tie.Need-returns-5
 returns-5 c =
     let moved = c .before .before .before in
-    let last = moved .before .before in
+    let weights = moved .before .before in
+    let rates = weights .before in
+    let last = rates .before in
     let other = last .before in
     let s = other .before .before .before .before .before .before in
     let same = toZ-ofZ w64 s.args.k s.fits.k in
+    let done = rw (same, rates .rates-of .ensures, weights .weights-of .ensures) at (moved .move-numbers .ensures) in
     rw (unit other)
     (moved-given s.args.reading s.args.n s.args.e (now s.args.sheet) s.args.k (now s.args.area) (input (other .before)) (inside other) (in-range last)
-    (rw same at (moved .move-numbers .ensures .0)) (rw same at (moved .move-numbers .ensures .1)) (not-false (moved .move-numbers .result) (c .if4 .left)))
+    (done .0) (done .1) (not-false (moved .move-numbers .result) (c .if4 .left)))
 
 pub move-sheet-spec : {M : Type 1} → statement M
 move-sheet-spec =
@@ -114,6 +129,8 @@ move-sheet-spec =
     add-unit
     (λ c κs. search needs)
     returns-3
+    (λ c κs. square c)
+    (λ c κs. square (c .before))
     move-numbers-requires
     (λ c κs. search needs)
     (λ c. search needs)

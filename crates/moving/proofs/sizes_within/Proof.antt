@@ -11,10 +11,10 @@ use Rattle.moving.proofs.sizes_within.Statement.{statement}
 use Rattle.moving.proofs.sizes_within.Tie as tie
 
 abbrev Inv-loop : tie.InvT-loop
-Inv-loop least most sheet good₀ at₀ good at = (at ≤ length sheet) × (good ≡ all (λ at. sizeWithin least most (getD sheet at nan)) 0 at)
+Inv-loop least most numbers good₀ at₀ good at = (at ≤ length numbers) × (good ≡ all (λ at. sizeWithin least most (getD numbers at nan)) 0 at)
 
 abbrev μ-loop : tie.MeasureT-loop
-μ-loop least most sheet good₀ at₀ good at = length sheet - at
+μ-loop least most numbers good₀ at₀ good at = length numbers - at
 
 loop-holds : tie.Need-loop-holds Inv-loop μ-loop
 unfolding all
@@ -26,15 +26,15 @@ loop-again c =
     let start = here .before .before .before in
     let held = here .before .loop .inv in
     let more = here .loop-test .taken in
-    (omega arith, all-more (λ at. sizeWithin (start .args .least) (start .args .most) (getD (start .args .sheet .now) at nan)) (here .before .loop .at) (held .1) (c .size-within .ensures))
+    (omega arith, all-more (λ at. sizeWithin (start .args .least) (start .args .most) (getD (start .args .numbers .now) at nan)) (here .before .loop .at) (held .1) (c .size-within .ensures))
 
 returns : tie.Need-returns Inv-loop μ-loop
 returns c =
     let start = c .before .before .before in
     let held = c .before .loop .inv in
     let end = c .loop-test .left in
-    let whole : c .before .loop .at ≡ length (start .args .sheet .now) = omega arith in
-    held .1 ∙ ap (λ (m : ℕ). all (λ at. sizeWithin (start .args .least) (start .args .most) (getD (start .args .sheet .now) at nan)) 0 m) whole
+    let whole : c .before .loop .at ≡ length (start .args .numbers .now) = omega arith in
+    held .1 ∙ ap (λ (m : ℕ). all (λ at. sizeWithin (start .args .least) (start .args .most) (getD (start .args .numbers .now) at nan)) 0 m) whole
 
 pub sizes-within-spec : {M : Type 1} → statement M
 sizes-within-spec =

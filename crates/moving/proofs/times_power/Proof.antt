@@ -11,16 +11,16 @@ use Rattle.moving.proofs.times_power.Statement.{statement}
 use Rattle.moving.proofs.times_power.Tie as tie
 
 abbrev Inv-loop : tie.InvT-loop
-Inv-loop power sheet area₀ i₀ area i = Filling (map (λ number. number ⊗ power) sheet) area₀ area (length sheet) i
+Inv-loop power numbers area₀ i₀ area i = Filling (map (λ number. number ⊗ power) numbers) area₀ area (length numbers) i
 
 abbrev μ-loop : tie.MeasureT-loop
-μ-loop power sheet area₀ i₀ area i = length sheet - i
+μ-loop power numbers area₀ i₀ area i = length numbers - i
 
 loop-again : tie.Need-loop-again Inv-loop μ-loop
 loop-again c =
     let here = c .before in
     let start = here .before .before in
-    one-more _ (nan ⊗ start .args .power) (here .before .loop .inv) (here .loop-test .taken) (product-at (start .args .power) (start .args .sheet .now) (here .before .loop .i) nan)
+    one-more _ (nan ⊗ start .args .power) (here .before .loop .inv) (here .loop-test .taken) (product-at (start .args .power) (start .args .numbers .now) (here .before .loop .i) nan)
 
 pub times-power-spec : {M : Type 1} → statement M
 times-power-spec =
@@ -28,7 +28,7 @@ times-power-spec =
     (tie.spec
     Inv-loop
     μ-loop
-    (λ c. none-yet (length-map (c .args .sheet .now) (λ number. number ⊗ c .args .power)) (c .pre))
+    (λ c. none-yet (length-map (c .args .numbers .now) (λ number. number ⊗ c .args .power)) (c .pre))
     (λ c. omega arith)
     (λ c. omega arith)
     (λ c. omega arith)
