@@ -6,7 +6,7 @@ use mathlib.Core.List.{List, map}
 use mathlib.Core.Path.{_≡_, sym, ap, _∙_}
 use lib.Dec.{T}
 use lib.IntN.{ℤ, pos, negsuc, negℤ}
-use lib.ListN.{length, getD}
+use lib.ListN.{length, getD, drop}
 use lib.Seq.{take-at}
 use lib.Ieee.{Float, nan}
 use Rattle.definitions.specs.Sheet.{allowance}
@@ -25,7 +25,7 @@ use Rattle.steps.proofs.AcceptedCalls.{AcceptedSheet, table-accepted, entry-acc
 use Rattle.steps.proofs.TableLaws.{length-list, length-rows, list-same, rows-same, list-map, rows-map}
 use Rattle.shape.proofs.ShapeQuestions.{entry-input-passed}
 use Rattle.commuting.specs.Commuting.{Moved, TimesBack, MovingCommutes}
-use Rattle.commuting.proofs.Moves.{number-is, held-too}
+use Rattle.commuting.proofs.Moves.{rate-is, weights-are, held-too}
 use Rattle.commuting.proofs.LargerSheet.{Larger}
 use Rattle.commuting.proofs.LargerTable.{column-scales, table-scales}
 use Rattle.commuting.proofs.LargerPrices.{prices-scale}
@@ -33,18 +33,18 @@ use Rattle.commuting.proofs.LargerPrices.{prices-scale}
 -- A law of every larger sheet, for a move by k of either sign: where k is below zero the first sheet is the larger one.
 module _ {reading n : ℕ} (inRange : List Float → Bool) (value : List Float → Float)
     (law : (c : ℕ) (sheet big : List Float) → Larger c reading n sheet big → T (inRange sheet) → T (inRange big) → Scaled c (value big) (value sheet)) where
-  back : (k : ℤ) (sheet sheet' : List Float) → ((at : ℕ) → getD sheet' at nan ≡ timesPower k (getD sheet at nan)) → Binary64 sheet → Binary64 sheet'
+  back : (k : ℤ) (sheet sheet' : List Float) → ((at : ℕ) → at < n * n → getD sheet' at nan ≡ timesPower k (getD sheet at nan)) → drop (n * n) sheet' ≡ drop (n * n) sheet → Binary64 sheet → Binary64 sheet'
       → AcceptedSheet reading n sheet (inRange sheet) → AcceptedSheet reading n sheet' (inRange sheet')
       → value sheet' ≡ timesPower (negℤ k) (value sheet)
-  back (pos c) sheet sheet' number held held' a a' =
-      let larger : Larger c reading n sheet sheet' = record { number = number; held = held; held' = held'; asked = a .known .numbers; asked' = a' .known .numbers } in
+  back (pos c) sheet sheet' rate weights held held' a a' =
+      let larger : Larger c reading n sheet sheet' = record { rate = rate; weights = weights; held = held; held' = held'; asked = a .known .numbers; asked' = a' .known .numbers } in
       sym (times-forth (pos c) (value sheet'))
       ∙ ap (timesPower (negℤ (pos c))) (sym (scaled-is-times-power c (value sheet') (value sheet) (law c sheet sheet' larger (a .in-range) (a' .in-range))))
-  back (negsuc j) sheet sheet' number held held' a a' =
+  back (negsuc j) sheet sheet' rate weights held held' a a' =
       let c = suc j in
-      let numbers : (at : ℕ) → getD sheet at nan ≡ timesPower (pos c) (getD sheet' at nan) =
-      λ at. sym (ap (timesPower (pos c)) (number at) ∙ times-back (pos c) (getD sheet at nan)) in
-      let larger : Larger c reading n sheet' sheet = record { number = numbers; held = held'; held' = held; asked = a' .known .numbers; asked' = a .known .numbers } in
+      let rates : (at : ℕ) → at < n * n → getD sheet at nan ≡ timesPower (pos c) (getD sheet' at nan) =
+      λ at l. sym (ap (timesPower (pos c)) (rate at l) ∙ times-back (pos c) (getD sheet at nan)) in
+      let larger : Larger c reading n sheet' sheet = record { rate = rates; weights = sym weights; held = held'; held' = held; asked = a' .known .numbers; asked' = a .known .numbers } in
       scaled-is-times-power c (value sheet) (value sheet') (law c sheet' sheet larger (a' .in-range) (a .in-range))
 
 -- Each number times 2^-k.
@@ -82,7 +82,7 @@ module _ {reading n : ℕ} {e : ℤ} {sheet : List Float} {k e' : ℤ} {sheet' :
       → entry reading n sheet' i j ≡ timesPower (negℤ k) (entry reading n sheet i j)
   entry-back i j hi hj a =
       back (everyStepInRange reading n) (λ sheet. entry reading n sheet i j) (λ c small big l t t'. table-scales (a .known .first) l t t' i j hi hj)
-      k sheet sheet' (number-is m) held (held-too m held) a
+      k sheet sheet' (rate-is m) (weights-are m) held (held-too m held) a
 
   table-back : (area area' : List Float)
       → TimesBack (n * n) k
@@ -121,7 +121,7 @@ module _ {reading n : ℕ} {e : ℤ} {sheet : List Float} {k e' : ℤ} {sheet' :
       (λ p p' i hi.
       back (λ sheet. columnInRange n sheet j) (λ sheet. entry 1 n sheet i j)
       (λ c small big l t t'. column-scales l j (accepted-stage reading n e sheet (length area) stage p) t t' i hi)
-      k sheet sheet' (number-is m) held (held-too m held)
+      k sheet sheet' (rate-is m) (weights-are m) held (held-too m held)
       (column-accepted reading n e sheet (length area) stage p) (column-accepted reading n e' sheet' (length area') stage p'))
 
   prices-back : (unitPrices area area' : List Float) → Binary64 unitPrices
@@ -137,7 +137,7 @@ module _ {reading n : ℕ} {e : ℤ} {sheet : List Float} {k e' : ℤ} {sheet' :
       let a = price-accepted reading n e sheet unitPrices (length area) p in
       back (λ sheet. pricesInRange reading n sheet unitPrices) (λ sheet. price sheet i)
       (λ c small big l t t'. prices-scale reading n (a .known .first) unitPrices fit (prices-fine reading n e sheet unitPrices (length area) p) l t t' i hi)
-      k sheet sheet' (number-is m) held (held-too m held) a (price-accepted reading n e' sheet' unitPrices (length area') p'))
+      k sheet sheet' (rate-is m) (weights-are m) held (held-too m held) a (price-accepted reading n e' sheet' unitPrices (length area') p'))
 
 pub moving-commutes : MovingCommutes
 unfolding MovingCommutes

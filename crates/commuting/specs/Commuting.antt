@@ -1,4 +1,4 @@
--- "Moving units must commute with the table", and two moves are one (document 02, U9), said of what the services answer and write.
+-- "Moving units must commute with the table", and two moves are one (document 02, U9 and U10), said of what the services answer and write.
 use Prim.Native.Nat.{ℕ, _*_, _≤_}
 use mathlib.Core.List.{List, map}
 use mathlib.Core.Path.{_≡_}
@@ -6,6 +6,7 @@ use lib.Dec.{T}
 use lib.IntN.{ℤ, negℤ, _+ℤ_}
 use lib.ListN.{length, take}
 use lib.Ieee.{Float}
+use Rattle.definitions.specs.Sheet.{sheetNumbers}
 use Rattle.definitions.specs.Questions.{exponentInRange}
 use Rattle.definitions.specs.Accuracy.{Binary64}
 use Rattle.definitions.specs.Services.{Answer, given, tableAnswer, tableArea, entryAnswer}
@@ -13,11 +14,12 @@ use Rattle.definitions.specs.Column.{columnAnswer, columnArea}
 use Rattle.definitions.specs.Prices.{priceAnswer, priceArea}
 use Rattle.definitions.specs.Moving.{timesPower, moveAnswer, movedArea}
 
--- An accepted move by k: what the call answers, and the sheet that it leaves in the first n × n places of its area.
+-- An accepted move by k: what the call answers, and the sheet that it leaves in its area's first places, as many as the sheet has
+-- numbers.
 pub record Moved (reading n : ℕ) (e : ℤ) (sheet : List Float) (k e' : ℤ) (sheet' : List Float) : Type 0 where
   pub area : List Float
   pub answered : moveAnswer reading n e sheet k (length area) ≡ given e'
-  pub written : sheet' ≡ take (n * n) (movedArea reading n e sheet k area)
+  pub written : sheet' ≡ take (sheetNumbers reading n) (movedArea reading n e sheet k area)
 
 -- Two calls that fill m places, each by its answer and its area after it: if both are accepted, both hand over the same allowance,
 -- and the second's m numbers are the first's, each times 2^-k.
@@ -60,6 +62,6 @@ unfoldable pub TwoMovesAreOne : Type 0
 TwoMovesAreOne =
     (reading n : ℕ) (e : ℤ) (sheet : List Float) (a e' : ℤ) (sheet' : List Float) (b e'' : ℤ) (sheet'' area : List Float)
     → Moved reading n e sheet a e' sheet' → Moved reading n e' sheet' b e'' sheet''
-    → n * n ≤ length area → T (exponentInRange (a +ℤ b))
+    → sheetNumbers reading n ≤ length area → T (exponentInRange (a +ℤ b))
     → (moveAnswer reading n e sheet (a +ℤ b) (length area) ≡ given e'')
     × (movedArea reading n e sheet (a +ℤ b) area ≡ movedArea reading n e' sheet' b area)
