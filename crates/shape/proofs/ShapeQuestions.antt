@@ -10,7 +10,8 @@ use lib.IntN.{ℤ}
 use lib.ListN.{length}
 use lib.Ieee.{Float}
 use lib.Ieee.Fits.{and-l, and-r}
-use Rattle.definitions.specs.Questions.{Asked, pass, _then_, ask, exponentInRange, question1, question2, question12, question3, sizeQuestions, shapeQuestions, question4, question5, placeQuestions, numberQuestions, tableInput, entryInput}
+use Rattle.definitions.specs.Sheet.{sheetNumbers}
+use Rattle.definitions.specs.Questions.{Asked, pass, _then_, ask, exponentInRange, knownReading, question1, question2, question12, question3, sizeQuestions, shapeQuestions, question4, question5, placeQuestions, numberQuestions, tableInput, entryInput}
 use Rattle.definitions.specs.File.{fileLength}
 use Rattle.definitions.specs.Saving.{saveQuestions}
 use Rattle.definitions.specs.Moving.{moveInput}
@@ -20,67 +21,68 @@ use Rattle.steps.proofs.QuestionLaws.{then-first, then-next, ask-yes, is-stage,
 use Rattle.answers.specs.Outcome.{ComesTo}
 use Rattle.answers.proofs.Outcome.{all-pass, no, asked-no, asked-yes, in-other-words}
 use Rattle.exact.proofs.Bools.{and-second}
-use Rattle.shape.specs.Square.{Square}
+use Rattle.shape.specs.Square.{WholeSheet}
 
 -- What 2, 12 and 3 say where they passed.
-pub record Sized (n : ℕ) (e : ℤ) (held : ℕ) : Type 0 where
+pub record Sized (reading n : ℕ) (e : ℤ) (held : ℕ) : Type 0 where
   pub least : 1 ≤ n
   pub few : n ≤ 32
   pub unit : T (exponentInRange e)
-  pub pairs : held ≡ n * n
+  pub numbers : held ≡ sheetNumbers reading n
 
-size-passed : (n : ℕ) (e : ℤ) (held : ℕ) → sizeQuestions n e held ≡ pass → Sized n e held
+size-passed : (reading n : ℕ) (e : ℤ) (held : ℕ) → sizeQuestions reading n e held ≡ pass → Sized reading n e held
 unfolding sizeQuestions question2 question12 question3
-size-passed n e held q =
+size-passed reading n e held q =
     let two = ask (leb 1 n && leb n 32) 2 0 0 in
     let twelve = ask (exponentInRange e) 12 0 0 in
-    let three = ask (eqb held (n * n)) 3 0 0 in
+    let three = ask (eqb held (sheetNumbers reading n)) 3 0 0 in
     let stages = is-stage n 32 (ask-yes (leb 1 n && leb n 32) 2 0 0 (then-first two (twelve then three) q)) in
     let later = then-next two (twelve then three) q in
     record {
       least = stages .0;
       few = stages .1;
       unit = ask-yes (exponentInRange e) 12 0 0 (then-first twelve three later);
-      pairs = eqb→eq held (n * n) (ask-yes (eqb held (n * n)) 3 0 0 (then-next twelve three later));
+      numbers = eqb→eq held (sheetNumbers reading n) (ask-yes (eqb held (sheetNumbers reading n)) 3 0 0 (then-next twelve three later));
     }
 
-pub sized : (reading n : ℕ) (e : ℤ) (held : ℕ) → shapeQuestions reading n e held ≡ pass → Sized n e held
+pub sized : (reading n : ℕ) (e : ℤ) (held : ℕ) → shapeQuestions reading n e held ≡ pass → Sized reading n e held
 unfolding shapeQuestions
-sized reading n e held q = size-passed n e held (then-next (question1 reading) (sizeQuestions n e held) q)
+sized reading n e held q = size-passed reading n e held (then-next (question1 reading) (sizeQuestions reading n e held) q)
 
 -- What they come to, by the tests of the code.
 module _ (reading n : ℕ) (e : ℤ) (held : ℕ) where
-  pub bad-reading : not (eqb reading 1 || eqb reading 2) ≡ true → ComesTo (shapeQuestions reading n e held) 1 0 0
-  unfolding shapeQuestions question1
-  bad-reading t = no (λ z. omega arith) (rw (asked-no (eqb reading 1 || eqb reading 2) 1 0 0 t))
+  pub bad-reading : not (eqb reading 1 || eqb reading 2 || eqb reading 3) ≡ true → ComesTo (shapeQuestions reading n e held) 1 0 0
+  unfolding shapeQuestions question1 knownReading
+  bad-reading t = no (λ z. omega arith) (rw (asked-no (eqb reading 1 || eqb reading 2 || eqb reading 3) 1 0 0 t))
 
-  module _ (first : not (eqb reading 1 || eqb reading 2) ≡ false) where
+  module _ (first : not (eqb reading 1 || eqb reading 2 || eqb reading 3) ≡ false) where
     pub bad-stages : not (leb 1 n && leb n 32) ≡ true → ComesTo (shapeQuestions reading n e held) 2 0 0
-    unfolding shapeQuestions sizeQuestions question1 question2
-    bad-stages t = no (λ z. omega arith) (rw (asked-yes (eqb reading 1 || eqb reading 2) 1 0 0 first, asked-no (leb 1 n && leb n 32) 2 0 0 t))
+    unfolding shapeQuestions sizeQuestions question1 knownReading question2
+    bad-stages t = no (λ z. omega arith) (rw (asked-yes (eqb reading 1 || eqb reading 2 || eqb reading 3) 1 0 0 first, asked-no (leb 1 n && leb n 32) 2 0 0 t))
 
     module _ (second : not (leb 1 n && leb n 32) ≡ false) where
       pub few-passed : n ≤ 32
       few-passed = leb-true n 32 (and-second (leb 1 n) (leb n 32) (not-false (leb 1 n && leb n 32) second))
 
       pub bad-unit : not (exponentInRange e) ≡ true → ComesTo (shapeQuestions reading n e held) 12 0 0
-      unfolding shapeQuestions sizeQuestions question1 question2 question12
+      unfolding shapeQuestions sizeQuestions question1 knownReading question2 question12
       bad-unit t =
           no (λ z. omega arith)
-          (rw (asked-yes (eqb reading 1 || eqb reading 2) 1 0 0 first, asked-yes (leb 1 n && leb n 32) 2 0 0 second, asked-no (exponentInRange e) 12 0 0 t))
+          (rw (asked-yes (eqb reading 1 || eqb reading 2 || eqb reading 3) 1 0 0 first, asked-yes (leb 1 n && leb n 32) 2 0 0 second, asked-no (exponentInRange e) 12 0 0 t))
 
       module _ (unit : not (exponentInRange e) ≡ false) where
-        to-length : shapeQuestions reading n e held ≡ question3 n held
-        unfolding shapeQuestions sizeQuestions question1 question2 question12
-        to-length = rw (asked-yes (eqb reading 1 || eqb reading 2) 1 0 0 first, asked-yes (leb 1 n && leb n 32) 2 0 0 second, asked-yes (exponentInRange e) 12 0 0 unit)
+        to-length : shapeQuestions reading n e held ≡ question3 reading n held
+        unfolding shapeQuestions sizeQuestions question1 knownReading question2 question12
+        to-length = rw (asked-yes (eqb reading 1 || eqb reading 2 || eqb reading 3) 1 0 0 first, asked-yes (leb 1 n && leb n 32) 2 0 0 second, asked-yes (exponentInRange e) 12 0 0 unit)
 
-        pub bad-length : (held ≡ n * n → ⊥) → ComesTo (shapeQuestions reading n e held) 3 0 0
-        unfolding question3
-        bad-length h = no (λ z. omega arith) (to-length ∙ rw (ne-eqb held (n * n) h))
+        module _ {count : ℕ} (is : count ≡ sheetNumbers reading n) where
+          pub bad-length : (held ≡ count → ⊥) → ComesTo (shapeQuestions reading n e held) 3 0 0
+          unfolding question3
+          bad-length h = no (λ z. omega arith) (to-length ∙ rw (ne-eqb held (sheetNumbers reading n) (λ same. h (same ∙ sym is))))
 
-        pub good-shape : held ≡ n * n → ComesTo (shapeQuestions reading n e held) 0 0 0
-        unfolding question3
-        good-shape same = all-pass (to-length ∙ rw (eq-eqb held (n * n) same))
+          pub good-shape : held ≡ count → ComesTo (shapeQuestions reading n e held) 0 0 0
+          unfolding question3
+          good-shape same = all-pass (to-length ∙ rw (eq-eqb held (sheetNumbers reading n) (same ∙ is)))
 
 -- And question 4, for any number of places, and question 5.
 module _ (needed room : ℕ) where
@@ -116,12 +118,12 @@ unfolding question4
 room-held needed room e = leb→le needed room (ask-yes (leb needed room) 4 0 0 e)
 
 -- Saving has no further questions.
-pub save-passed : (reading n : ℕ) (e : ℤ) (held room : ℕ) → saveQuestions reading n e held room ≡ pass → Sized n e held × (fileLength n ≤ room)
+pub save-passed : (reading n : ℕ) (e : ℤ) (held room : ℕ) → saveQuestions reading n e held room ≡ pass → Sized reading n e held × (fileLength reading n ≤ room)
 unfolding saveQuestions
 save-passed reading n e held room q =
     let shape = shapeQuestions reading n e held in
-    let four = question4 (fileLength n) room in
-    (sized reading n e held (then-first shape four q), room-held (fileLength n) room (then-next shape four q))
+    let four = question4 (fileLength reading n) room in
+    (sized reading n e held (then-first shape four q), room-held (fileLength reading n) room (then-next shape four q))
 
 -- One column asks the first four of reading 1.
 same-again : (b : Bool) → (b && b) ≡ b
@@ -130,7 +132,7 @@ same-again false = refl
 
 module _ (n : ℕ) (e : ℤ) (held room stage : ℕ) where
   column-shape : columnShape 1 n e held room stage ≡ (shapeQuestions 1 n e held then question4 n room then question5 n stage stage)
-  unfolding columnShape columnReading shapeQuestions question1
+  unfolding columnShape columnReading shapeQuestions question1 knownReading
   column-shape = refl
 
   -- What it asks of reading 1, after the first four.
@@ -152,36 +154,36 @@ module _ (n stage : ℕ) where
 
 -- What is known of a column's call once its questions passed.
 column-shape-passed : (reading n : ℕ) (e : ℤ) (held room stage : ℕ) → columnShape reading n e held room stage ≡ pass
-    → Sized n e held × (n ≤ room) × ((1 ≤ stage) × (stage ≤ n))
+    → Sized 1 n e held × (n ≤ room) × ((1 ≤ stage) × (stage ≤ n))
 unfolding columnShape
 column-shape-passed reading n e held room stage q =
-    let size = sizeQuestions n e held in
+    let size = sizeQuestions 1 n e held in
     let last = question4 n room then question5 n stage stage in
     let later = then-next (columnReading reading) (size then last) q in
     let own = then-next size last later in
-    (size-passed n e held (then-first size last later), room-held n room (then-first (question4 n room) (question5 n stage stage) own), one-stage n stage (then-next (question4 n room) (question5 n stage stage) own))
+    (size-passed 1 n e held (then-first size last later), room-held n room (then-first (question4 n room) (question5 n stage stage) own), one-stage n stage (then-next (question4 n room) (question5 n stage stage) own))
 
-square : {n : ℕ} {e : ℤ} {sheet : List Float} → Sized n e (length sheet) → Square n sheet
-square s = record { few = s .few; held = s .pairs }
+whole : {reading n : ℕ} {e : ℤ} {sheet : List Float} → Sized reading n e (length sheet) → WholeSheet reading n sheet
+whole s = record { few = s .few; held = s .numbers }
 
 module _ (reading n : ℕ) (e : ℤ) (sheet : List Float) where
-  pub column-square : (room stage : ℕ) → columnShape reading n e (length sheet) room stage ≡ pass → Square n sheet
-  column-square room stage q = square (column-shape-passed reading n e (length sheet) room stage q .0)
+  pub column-square : (room stage : ℕ) → columnShape reading n e (length sheet) room stage ≡ pass → WholeSheet 1 n sheet
+  column-square room stage q = whole (column-shape-passed reading n e (length sheet) room stage q .0)
 
-  pub column-input-passed : (room stage : ℕ) → columnInput reading n e sheet room stage ≡ pass → Square n sheet × (n ≤ room) × ((1 ≤ stage) × (stage ≤ n))
+  pub column-input-passed : (room stage : ℕ) → columnInput reading n e sheet room stage ≡ pass → WholeSheet 1 n sheet × (n ≤ room) × ((1 ≤ stage) × (stage ≤ n))
   unfolding columnInput
   column-input-passed room stage asked =
       let q = then-first (columnShape reading n e (length sheet) room stage) (numberQuestions 1 n sheet) asked in
       let p = column-shape-passed reading n e (length sheet) room stage q in
-      (square (p .0), p .1, p .2)
+      (whole (p .0), p .1, p .2)
 
-  pub shape-passed : (rest : Asked) → (shapeQuestions reading n e (length sheet) then rest) ≡ pass → Square n sheet × (rest ≡ pass)
+  pub shape-passed : (rest : Asked) → (shapeQuestions reading n e (length sheet) then rest) ≡ pass → WholeSheet reading n sheet × (rest ≡ pass)
   shape-passed rest q =
       let shape = shapeQuestions reading n e (length sheet) in
-      (square (sized reading n e (length sheet) (then-first shape rest q)), then-next shape rest q)
+      (whole (sized reading n e (length sheet) (then-first shape rest q)), then-next shape rest q)
 
   -- The calls' own questions, 4 and 5, come next.
-  pub table-input-passed : (room : ℕ) → tableInput reading n e sheet room ≡ pass → Square n sheet × (n * n ≤ room)
+  pub table-input-passed : (room : ℕ) → tableInput reading n e sheet room ≡ pass → WholeSheet reading n sheet × (n * n ≤ room)
   unfolding tableInput
   table-input-passed room q =
       let p = shape-passed (question4 (n * n) room then numberQuestions reading n sheet) q in
@@ -192,15 +194,15 @@ module _ (reading n : ℕ) (e : ℤ) (sheet : List Float) where
   unfolding moveInput
   move-unit room q =
       let shape = shapeQuestions reading n e (length sheet) in
-      sized reading n e (length sheet) (then-first shape (question4 (n * n) room then placeQuestions reading n sheet) q) .unit
+      sized reading n e (length sheet) (then-first shape (question4 (sheetNumbers reading n) room then placeQuestions reading n sheet) q) .unit
 
-  pub move-input-passed : (room : ℕ) → moveInput reading n e sheet room ≡ pass → Square n sheet × (n * n ≤ room) × (placeQuestions reading n sheet ≡ pass)
+  pub move-input-passed : (room : ℕ) → moveInput reading n e sheet room ≡ pass → WholeSheet reading n sheet × (sheetNumbers reading n ≤ room) × (placeQuestions reading n sheet ≡ pass)
   unfolding moveInput
   move-input-passed room q =
-      let p = shape-passed (question4 (n * n) room then placeQuestions reading n sheet) q in
-      (p .0, room-held (n * n) room (then-first (question4 (n * n) room) (placeQuestions reading n sheet) (p .1)), then-next (question4 (n * n) room) (placeQuestions reading n sheet) (p .1))
+      let p = shape-passed (question4 (sheetNumbers reading n) room then placeQuestions reading n sheet) q in
+      (p .0, room-held (sheetNumbers reading n) room (then-first (question4 (sheetNumbers reading n) room) (placeQuestions reading n sheet) (p .1)), then-next (question4 (sheetNumbers reading n) room) (placeQuestions reading n sheet) (p .1))
 
-  pub entry-input-passed : (i j : ℕ) → entryInput reading n e sheet i j ≡ pass → Square n sheet × ((1 ≤ i) × (i ≤ n)) × ((1 ≤ j) × (j ≤ n))
+  pub entry-input-passed : (i j : ℕ) → entryInput reading n e sheet i j ≡ pass → WholeSheet reading n sheet × ((1 ≤ i) × (i ≤ n)) × ((1 ≤ j) × (j ≤ n))
   unfolding entryInput question5
   entry-input-passed i j q =
       let p = shape-passed (question5 n i j then numberQuestions reading n sheet) q in
@@ -208,7 +210,7 @@ module _ (reading n : ℕ) (e : ℤ) (sheet : List Float) where
       (p .0, is-stage i n (and-l (leb 1 i && leb i n) (leb 1 j && leb j n) t), is-stage j n (and-r (leb 1 i && leb i n) (leb 1 j && leb j n) t))
 
   -- Prices ask 4 for n numbers, and 18.
-  price-shape-passed : (given room : ℕ) → priceShape reading n e (length sheet) given room ≡ pass → Square n sheet × (n ≤ room) × (given ≡ n)
+  price-shape-passed : (given room : ℕ) → priceShape reading n e (length sheet) given room ≡ pass → WholeSheet reading n sheet × (n ≤ room) × (given ≡ n)
   unfolding priceShape question18
   price-shape-passed given room q =
       let four = question4 n room in
@@ -216,10 +218,10 @@ module _ (reading n : ℕ) (e : ℤ) (sheet : List Float) where
       let p = shape-passed (four then last) q in
       (p .0, room-held n room (then-first four last (p .1)), eqb→eq given n (ask-yes (eqb given n) 18 0 0 (then-next four last (p .1))))
 
-  pub price-square : (given room : ℕ) → priceShape reading n e (length sheet) given room ≡ pass → Square n sheet
+  pub price-square : (given room : ℕ) → priceShape reading n e (length sheet) given room ≡ pass → WholeSheet reading n sheet
   price-square given room q = price-shape-passed given room q .0
 
-  pub price-input-passed : (given room : ℕ) → priceInput reading n e sheet given room ≡ pass → Square n sheet × (n ≤ room) × (given ≡ n)
+  pub price-input-passed : (given room : ℕ) → priceInput reading n e sheet given room ≡ pass → WholeSheet reading n sheet × (n ≤ room) × (given ≡ n)
   unfolding priceInput
   price-input-passed given room q =
       price-shape-passed given room (then-first (priceShape reading n e (length sheet) given room) (numberQuestions reading n sheet) q)

@@ -1,10 +1,10 @@
 // Questions 1 to 5 of document 01: the reading, the number of stages, the lengths of the lent areas and the
-// stages asked for, with 12 of the unit among them, and those of saving, of one column and of prices (document 02,
-// U1, U2, U5 and U7). Each answers 0, or the number of the first question that is answered no; their refusals have
+// stages asked for, with 12 of the unit among them, and those of moving, saving, one column and prices (document 02,
+// U1, U2, U4, U5, U7 and U10). Each answers 0, or the number of the first question that is answered no; their refusals have
 // no row and no column. And the number at a place of a sheet of that shape.
 ghost use Prim.Native.Nat.{_*_, _<_};
 ghost use mathlib.Core.Path.{_≡_};
-ghost use Rattle.definitions.specs.Sheet.{place};
+ghost use Rattle.definitions.specs.Sheet.{sheetNumbers, place};
 ghost use Rattle.definitions.specs.Questions.{_then_, shapeQuestions, question4, question5};
 ghost use Rattle.definitions.specs.Saving.{saveQuestions};
 ghost use Rattle.definitions.specs.Column.{columnShape};
@@ -12,11 +12,11 @@ ghost use Rattle.definitions.specs.Prices.{priceShape};
 ghost use Rattle.answers.specs.Outcome.{ComesTo};
 ghost use Rattle.shape.specs.Square.{Square};
 
-// Questions 1, 2, 12 and 3. n * n is formed only once n is known to be small.
+// Questions 1, 2, 12 and 3. The count of numbers is formed only once n is known to be small.
 fn ask_shape(reading: usize, n: usize, e: i64, held: usize) -> usize
     ensures { λ r. ⌜ ComesTo (shapeQuestions reading n e held) r 0 0 ⌝ }
 {
-    if !((reading == 1) | (reading == 2)) {
+    if !((reading == 1) | (reading == 2) | (reading == 3)) {
         return 1;
     }
     if !((1 <= n) & (n <= 32)) {
@@ -25,7 +25,7 @@ fn ask_shape(reading: usize, n: usize, e: i64, held: usize) -> usize
     if !((-512 <= e) & (e <= 512)) {
         return 12;
     }
-    if held != n * n {
+    if held != counts::numbers(reading, n) {
         return 3;
     }
     0
@@ -45,6 +45,20 @@ pub fn ask_table(reading: usize, n: usize, e: i64, held: usize, room: usize) -> 
     0
 }
 
+// The same for moving, whose second area takes as many numbers as the sheet has.
+pub fn ask_move(reading: usize, n: usize, e: i64, held: usize, room: usize) -> usize
+    ensures { λ r. ⌜ ComesTo (shapeQuestions reading n e held then question4 (sheetNumbers reading n) room) r 0 0 ⌝ }
+{
+    let shape = ask_shape(reading, n, e, held);
+    if shape != 0 {
+        return shape;
+    }
+    if room < held {
+        return 4;
+    }
+    0
+}
+
 // Questions 1 to 4 of saving: `room` is the number of bytes lent.
 pub fn ask_save(reading: usize, n: usize, e: i64, held: usize, room: usize) -> usize
     ensures { λ r. ⌜ ComesTo (saveQuestions reading n e held room) r 0 0 ⌝ }
@@ -53,7 +67,7 @@ pub fn ask_save(reading: usize, n: usize, e: i64, held: usize, room: usize) -> u
     if shape != 0 {
         return shape;
     }
-    if room < 12 + n * (8 + 8 * n) {
+    if room < counts::file_bytes(reading, n) {
         return 4;
     }
     0

@@ -1,6 +1,6 @@
 -- `allowance::allowance_of` meets its contract. Assumes nothing.
 use native.Mathlib.Omega.{arith}
-use Rattle.shape.proofs.Square.{square-small}
+use Rattle.counts.proofs.Counts.{square-small}
 use Rattle.allowance.proofs.Cubes.{first-allowance, second-allowance, cube-small}
 use Rattle.allowance.proofs.allowance_of.Statement.{statement}
 use Rattle.allowance.proofs.allowance_of.Tie as tie

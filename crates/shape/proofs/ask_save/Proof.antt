@@ -1,15 +1,11 @@
 -- `shape::ask_save` meets its contract. Assumes nothing.
-use Prim.Native.Nat.{_*_, _≤_}
-use native.Mathlib.Omega.{arith}
 use borrow.Author.Needs.{needs}
 use mir.Syntax.{w64}
 use mir.ValLaws.{toZ-ofZ}
-use Rattle.definitions.specs.File.{headLength, fileLength}
 use Rattle.definitions.specs.Saving.{saveQuestions}
 use Rattle.answers.proofs.Outcome.{passed, ends, goes-on}
 use Rattle.definitions.specs.Questions.{shapeQuestions}
 use Rattle.answers.specs.Outcome.{ComesTo}
-use Rattle.shape.proofs.Square.{square-small}
 use Rattle.shape.proofs.ShapeQuestions.{sized, bad-room, good-room}
 use Rattle.shape.proofs.ask_save.Statement.{statement}
 use Rattle.shape.proofs.ask_save.Tie as tie
@@ -23,18 +19,16 @@ unfolding saveQuestions
 returns c = ends (asked (c .before)) _ (c .if1 .taken)
 
 returns-2 : tie.Need-returns-2
-unfolding saveQuestions fileLength headLength
-returns-2 c = goes-on (asked (c .before .before)) (c .before .if1 .left) (bad-room _ _ (c .if2 .taken))
+unfolding saveQuestions
+returns-2 c =
+    let shape = c .before .before in
+    goes-on (asked (shape .before)) (shape .if1 .left) (bad-room _ _ (rw (c .before .file-bytes .ensures) at (c .if2 .taken)))
 
 returns-3 : tie.Need-returns-3
-unfolding saveQuestions fileLength headLength
-returns-3 c = goes-on (asked (c .before .before)) (c .before .if1 .left) (good-room _ _ (c .if2 .left))
-
--- The number of bytes fits.
-small : (c : tie.Else1) → (c .before .before .args .n ≤ 32) × (c .before .before .args .n * c .before .before .args .n ≤ 1024)
-small c =
-    let few = sized _ _ _ _ (passed (asked (c .before)) (c .if1 .left)) .few in
-    (few, square-small few)
+unfolding saveQuestions
+returns-3 c =
+    let shape = c .before .before in
+    goes-on (asked (shape .before)) (shape .if1 .left) (good-room _ _ (rw (c .before .file-bytes .ensures) at (c .if2 .left)))
 
 pub ask-save-spec : {M : Type 1} → statement M
 ask-save-spec =
@@ -42,9 +36,6 @@ ask-save-spec =
     (tie.spec
     (λ c κs. search needs)
     returns
-    (λ c. omega (arith, small c))
-    (λ c. omega (arith, small c))
-    (λ c. omega (arith, small c))
-    (λ c. omega (arith, small c))
+    (λ c κs. sized _ _ _ _ (passed (asked (c .before)) (c .if1 .left)) .few)
     returns-2
     returns-3)

@@ -1,9 +1,7 @@
 -- `shape::ask_shape` meets its contract. Assumes nothing.
-use native.Mathlib.Omega.{arith}
 use mir.Syntax.{w64}
 use mir.ValLaws.{toZ-ofZ}
 use Rattle.definitions.specs.Questions.{exponentInRange}
-use Rattle.shape.proofs.Square.{square-small}
 use Rattle.shape.proofs.ShapeQuestions.{bad-reading, bad-stages, bad-unit, bad-length, good-shape, few-passed}
 use Rattle.shape.proofs.ask_shape.Statement.{statement}
 use Rattle.shape.proofs.ask_shape.Tie as tie
@@ -15,22 +13,24 @@ returns-3 c =
     let s = c .before .before .before in
     bad-unit _ _ _ _ (c .before .before .if1 .left) (c .before .if2 .left) (rw (toZ-ofZ w64 s.args.e s.fits.e) at (c .if3 .taken))
 
-mul-if4 : tie.Need-mul-if4
-mul-if4 c =
+numbers-requires : tie.Need-numbers-requires
+numbers-requires c κs =
     let s = c .before .before .before in
-    omega (arith, square-small (few-passed s.args.reading s.args.n s.args.e s.args.held (c .before .before .if1 .left) (c .before .if2 .left)))
+    few-passed s.args.reading s.args.n s.args.e s.args.held (c .before .before .if1 .left) (c .before .if2 .left)
 
 returns-4 : tie.Need-returns-4
 unfolding exponentInRange
 returns-4 c =
-    let s = c .before .before .before .before in
-    bad-length _ _ _ _ (c .before .before .before .if1 .left) (c .before .before .if2 .left) (rw (toZ-ofZ w64 s.args.e s.fits.e) at (c .before .if3 .left)) (c .if4 .taken)
+    let unit = c .before .before in
+    let s = unit .before .before .before in
+    bad-length _ _ _ _ (unit .before .before .if1 .left) (unit .before .if2 .left) (rw (toZ-ofZ w64 s.args.e s.fits.e) at (unit .if3 .left)) (c .before .numbers .ensures) (c .if4 .taken)
 
 returns-5 : tie.Need-returns-5
 unfolding exponentInRange
 returns-5 c =
-    let s = c .before .before .before .before in
-    good-shape _ _ _ _ (c .before .before .before .if1 .left) (c .before .before .if2 .left) (rw (toZ-ofZ w64 s.args.e s.fits.e) at (c .before .if3 .left)) (c .if4 .left)
+    let unit = c .before .before in
+    let s = unit .before .before .before in
+    good-shape _ _ _ _ (unit .before .before .if1 .left) (unit .before .if2 .left) (rw (toZ-ofZ w64 s.args.e s.fits.e) at (unit .if3 .left)) (c .before .numbers .ensures) (c .if4 .left)
 
 pub ask-shape-spec : {M : Type 1} → statement M
 ask-shape-spec =
@@ -39,6 +39,6 @@ ask-shape-spec =
     (λ c. bad-reading _ _ _ _ (c .if1 .taken))
     (λ c. bad-stages _ _ _ _ (c .before .if1 .left) (c .if2 .taken))
     returns-3
-    mul-if4
+    numbers-requires
     returns-4
     returns-5)

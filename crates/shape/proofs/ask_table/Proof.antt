@@ -6,7 +6,7 @@ use mir.ValLaws.{toZ-ofZ}
 use Rattle.answers.proofs.Outcome.{passed, ends, goes-on}
 use Rattle.definitions.specs.Questions.{shapeQuestions}
 use Rattle.answers.specs.Outcome.{ComesTo}
-use Rattle.shape.proofs.Square.{square-small}
+use Rattle.counts.proofs.Counts.{square-small}
 use Rattle.shape.proofs.ShapeQuestions.{sized, bad-room, good-room}
 use Rattle.shape.proofs.ask_table.Statement.{statement}
 use Rattle.shape.proofs.ask_table.Tie as tie

@@ -4,7 +4,7 @@ use native.Mathlib.Nat.{le-trans}
 use native.Mathlib.Omega.{arith}
 use borrow.Author.Needs.{needs}
 use Rattle.tables.specs.RowMajor.{table}
-use Rattle.shape.proofs.Square.{square-small}
+use Rattle.counts.proofs.Counts.{square-small}
 use Rattle.writing.proofs.FilledRows.{FilledRows, rows-begin, rows-turn, rows-end, row-fits, part-short}
 use Rattle.writing.proofs.write.Statement.{statement}
 use Rattle.writing.proofs.write.Tie as tie
