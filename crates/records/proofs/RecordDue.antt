@@ -4,6 +4,7 @@ use mathlib.Core.Bool.{true, _&&_, cond, and-true}
 use mathlib.Core.List.{List, _++_}
 use mathlib.Core.Path.{_≡_, sym, _∙_}
 use native.Mathlib.Nat.{zero-add}
+use native.Mathlib.Omega.{arith}
 use borrow.Author.Tests.{le-leb, lt-leb, eq-eqb, eqb-true}
 use lib.Dec.{leb, eqb, lit<}
 use lib.ListN.{drop}
@@ -29,6 +30,10 @@ module _ (n due : ℕ) where
   pub weights-width : n < due → widthDue n due ≡ 0
   unfolding widthDue
   weights-width h = rw (lt-leb due n h)
+
+  pub width-small : widthDue n due ≤ 2
+  unfolding widthDue
+  width-small = by-bool (leb due n) (λ t. rw t (omega arith)) (λ f. rw f (omega arith))
 
   -- The kind and the row number fit their bytes.
   pub kind-narrow : kindDue n due < 256 ^ 2
