@@ -38,7 +38,10 @@ fn is_good_head(bytes: &[u8]) -> bool
     let reading = field_at(bytes, 6, 2);
     let n = field_at(bytes, 8, 2);
     let e = unit_of(bytes);
-    ((reading == 1) | (reading == 2) | (reading == 3)) & (1 <= n) & (n <= 32) & ((-512 <= e) & (e <= 512))
+    ((reading == 1) | (reading == 2) | (reading == 3))
+        & (1 <= n)
+        & (n <= 32)
+        & ((-512 <= e) & (e <= 512))
 }
 
 // Question 13, of the record due, which starts at `at` and which the file holds whole: a row, or behind the last row

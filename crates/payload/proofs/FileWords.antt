@@ -143,9 +143,9 @@ record-words-at n due (suc m) k bytes e p last h =
     elim (decLt k n) [
       | yes l ↦ in-record n due m k bytes later passed l
       | no l ↦
-        let inside : k - n < m * n = omega arith in
-        let row : due ≤ n = omega (arith, some-left m n inside) in
-        past-record n due m k bytes later passed p (omega arith) (row-width n due row) (record-words-at n (suc due) m (k - n) (rest bytes) (passed .later) p (omega arith) inside)
+          let inside : k - n < m * n = omega arith in
+          let row : due ≤ n = omega (arith, some-left m n inside) in
+          past-record n due m k bytes later passed p (omega arith) (row-width n due row) (record-words-at n (suc due) m (k - n) (rest bytes) (passed .later) p (omega arith) inside)
     ]
 
 -- What the questions say of a file that is accepted.

@@ -1,6 +1,6 @@
 -- The file of a sheet as the pieces that the writers write, one after another, and its length.
 use Prim.Native.Nat.{ℕ, zero, suc, _+_, _*_, _≤_, _<_}
-use mathlib.Core.Bool.{cond}
+use mathlib.Core.Bool.{Bool, true, false, cond}
 use mathlib.Core.List.{List, [], _∷_, _++_, append-assoc, append-nil}
 use mathlib.Core.Path.{_≡_, refl, sym, ap, _∙_}
 use native.Mathlib.Nat.{suc-mul, zero-mul, add-zero, mul-le-mul-right}
@@ -10,7 +10,6 @@ use lib.Dec.{eqb}
 use lib.IntN.{ℤ}
 use lib.ListN.{length, take, drop, getD, length-append, length-drop}
 use lib.Seq.{take-suc, drop-drop, length-take-le}
-use Rattle.exact.proofs.Cases.{by-bool}
 use Rattle.definitions.specs.Sheet.{sheetRows, sheetNumbers}
 use Rattle.definitions.specs.File.{headLength, fileLength}
 use Rattle.definitions.specs.Saving.{littleBytes, recordBytes, complement, headBytes, wordBytes, rowBytes, weightBytes, bytesDue, recordsBytes, sheetFile}
@@ -120,16 +119,14 @@ recordsOf reading n words = recordsBytes n 1 (sheetRows reading n) words
 
 length-records : (reading n : ℕ) (words : List ℕ) → length words ≡ sheetNumbers reading n → length (recordsOf reading n words) ≡ n * (6 + 2 + 8 * n) + cond (eqb reading 3) (6 + 8 * n) 0
 unfolding sheetRows sheetNumbers
-length-records reading n words held =
-    by-bool (eqb reading 3)
-    (λ t.
-        let all : length words ≡ n * n + n = rw t at held in
+length-records reading n words held = go (eqb reading 3) held
+  where
+    go : (weights : Bool) → length words ≡ cond weights (n * n + n) (n * n) → length (recordsBytes n 1 (cond weights (suc n) n) words) ≡ n * (6 + 2 + 8 * n) + cond weights (6 + 8 * n) 0
+    go true all =
         let last : n < n + 1 = omega arith in
-        rw (t, file-grows n words n, length-append, length-due, length-row n n words (omega arith), weights-width n (n + 1) last, length-rows n n words (omega arith) (omega arith))
-        (omega arith))
-    (λ f.
-        let all : length words ≡ n * n = rw f at held in
-        rw (f, length-rows n n words (omega arith) (omega arith)) (omega arith))
+        rw (file-grows n words n, length-append, length-due, length-row n n words (omega arith), weights-width n (n + 1) last, length-rows n n words (omega arith) (omega arith))
+        (omega arith)
+    go false all = rw (length-rows n n words (omega arith) (omega arith)) (omega arith)
 
 pub length-file : (reading n : ℕ) (e : ℤ) (words : List ℕ) → length words ≡ sheetNumbers reading n → length (sheetFile reading n e words) ≡ fileLength reading n
 unfolding sheetFile fileLength

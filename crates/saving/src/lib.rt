@@ -38,7 +38,14 @@ fn put_words(words: &[u64], at: usize, out: &mut [u8]) -> usize
 }
 
 // A record of words behind a number of `width` bytes, which is none where that is 0.
-fn put_record(kind: usize, number: usize, width: usize, words: &[u64], at: usize, out: &mut [u8]) -> usize
+fn put_record(
+    kind: usize,
+    number: usize,
+    width: usize,
+    words: &[u64],
+    at: usize,
+    out: &mut [u8],
+) -> usize
     requires { ⌜ (width ≤ 2) × Room (recordBytes kind (littleBytes width number ++ wordBytes (now words))) at (now out) ⌝ }
     ensures { λ r. ⌜ Written (recordBytes kind (littleBytes width number ++ wordBytes (now (words .entry)))) at (now (out .entry)) (now (out .exit)) r ⌝ }
 {
