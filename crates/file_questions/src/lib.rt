@@ -100,10 +100,11 @@ pub fn judge(bytes: &[u8], room: usize) -> Loaded
         at = record_end(bytes, at);
         due += 1;
     }
+    let places = counts::numbers(reading, n);
     if at != bytes.len() {
         return refused(14, 0);
     }
-    if room < counts::numbers(reading, n) {
+    if room < places {
         return refused(4, 0);
     }
     Loaded::Sheet { reading, n, e }

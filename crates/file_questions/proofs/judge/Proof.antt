@@ -146,31 +146,33 @@ loop-again c =
 
 returns-5 : tie.Need-returns-5 Inv-loop μ-loop
 returns-5 c =
-    let l = c .before .before .before in
+    let done = c .before .before .before in
+    let l = done .before in
     refused-by (bytes-of l) (room-of l) 14 0 (c .refused5 .result) (c .refused5 .ensures)
-    (l .loop .inv .left ∙ bytes-after (bytes-of l) (room-of l) (stages-of l) (rows-of l) (places-of l) (l .loop .at) (l .loop .due) (c .before .before .loop-test .left) (l .loop .inv .inside) (c .before .if5 .taken))
+    (l .loop .inv .left ∙ bytes-after (bytes-of l) (room-of l) (stages-of l) (rows-of l) (places-of l) (l .loop .at) (l .loop .due) (done .loop-test .left) (l .loop .inv .inside) (c .before .if5 .taken))
 
--- After the last record only question 4 is left.
-records-done : (c : tie.Else5 Inv-loop μ-loop) → fileQuestions (bytes-of (c .before .before)) (room-of (c .before .before)) ≡ question4 (places-of (c .before .before)) (room-of (c .before .before))
+-- After the last record only question 4 is left, of as many places as the code counted.
+records-done : (c : tie.Else5 Inv-loop μ-loop) → let l = c .before .before .before in fileQuestions (bytes-of l) (room-of l) ≡ question4 (c .before .numbers .result) (room-of l)
 records-done c =
-    let l = c .before .before in
-    l .loop .inv .left ∙ at-end (bytes-of l) (room-of l) (stages-of l) (rows-of l) (places-of l) (l .loop .at) (l .loop .due) (c .before .loop-test .left) (c .if5 .left)
+    let l = c .before .before .before in
+    rw (c .before .numbers .ensures)
+    (l .loop .inv .left ∙ at-end (bytes-of l) (room-of l) (stages-of l) (rows-of l) (places-of l) (l .loop .at) (l .loop .due) (c .before .before .loop-test .left) (c .if5 .left))
 
 returns-6 : tie.Need-returns-6 Inv-loop μ-loop
 returns-6 c =
-    let told = c .before .before in
-    let l = told .before .before .before in
+    let at-test = c .before .before in
+    let l = at-test .before .before .before in
     refused-by (bytes-of l) (room-of l) 4 0 (c .refused6 .result) (c .refused6 .ensures)
-    (records-done (told .before) ∙ room-short (places-of l) (room-of l) (rw (told .numbers .ensures) at (c .before .if6 .taken)))
+    (records-done at-test ∙ room-short _ (room-of l) (c .before .if6 .taken))
 
 -- The unit is handed over by its bits, which mean it.
 returns-7 : tie.Need-returns-7 Inv-loop μ-loop
 returns-7 c =
-    let told = c .before in
-    let l = told .before .before .before in
+    let at-test = c .before in
+    let l = at-test .before .before .before in
     let unit = l .before .before .before .unit-of in
     given-by (bytes-of l) (room-of l) (reading-of l) (stages-of l) (toZ w64 (ofZ w64 (unit .result))) (l .loop .inv .kind) (l .loop .inv .stages) (toZ-ofZ w64 (unit .result) (record { sfits = unit .ok }) ∙ unit .ensures)
-    (records-done (told .before) ∙ room-enough (places-of l) (room-of l) (rw (told .numbers .ensures) at (c .if6 .left)))
+    (records-done at-test ∙ room-enough _ (room-of l) (c .if6 .left))
 
 pub judge-spec : {M : Type 1} → statement M
 judge-spec =
@@ -201,8 +203,8 @@ judge-spec =
     (λ c. omega arith)
     loop-again
     (λ c κs. search needs)
-    returns-5
     (λ c κs. search needs)
+    returns-5
     (λ c κs. search needs)
     returns-6
     returns-7)
