@@ -2,15 +2,16 @@
 use Prim.Native.Nat.{ℕ, zero, suc, _+_, _-_, _*_, _/_, _≤_, _<_}
 use mathlib.Core.Bool.{true}
 use mathlib.Core.List.{List, _++_}
-use borrow.Author.Tests.{leb-true}
-use lib.Dec.{leb}
 use mathlib.Core.Path.{_≡_, refl, sym, ap, _∙_}
 use native.Mathlib.Nat.{add-zero, zero-add, not-suc-le-zero, le-of-suc-le-suc, div-eq-of-lt, div-eq-sub-div}
 use native.Mathlib.Decide.{decLt}
 use native.Mathlib.Omega.{arith}
+use borrow.Author.Tests.{leb-true}
+use lib.Dec.{leb}
 use lib.ListN.{length, drop, getD, length-append, length-drop, length-map, List·getD-append, List·getD-map}
 use lib.Ieee.{binary64, ofBits}
 use lib.Ieee.Bits.{is-true}
+use lib.Ieee.Positive.{first-pos}
 use lib.Seq.{drop-drop, getD-append-add}
 use Rattle.definitions.specs.Sheet.{sheetRows, sheetNumbers}
 use Rattle.definitions.specs.Questions.{pass, ask, _then_, question1, question2, question4}
@@ -37,7 +38,7 @@ words-at (suc m) (suc k) bytes h =
     words-at m k (drop 8 bytes) (le-of-suc-le-suc h) ∙ ap (little 8) (drop-drop (8 * k) 8 bytes ∙ ap (λ i. drop i bytes) place)
 
 -- The records of n words each.
-pub record-words-length : (n due m : ℕ) (bytes : List ℕ) → length (recordWords n due m bytes) ≡ m * n
+record-words-length : (n due m : ℕ) (bytes : List ℕ) → length (recordWords n due m bytes) ≡ m * n
 unfolding recordWords
 record-words-length n due zero bytes = omega arith
 record-words-length n due (suc m) bytes =
@@ -129,10 +130,6 @@ module _ (n due m k : ℕ) (bytes later : List ℕ) (passed : RecordPassed n due
         held = omega (arith, w .held, ap length ends, length-drop (6 + (2 + 8 * n)) bytes);
       })
 
-some-left : (m n : ℕ) {k : ℕ} → k < m * n → 1 ≤ m
-some-left zero n h = absurd (omega arith)
-some-left (suc m) n h = omega arith
-
 -- Of m records from the one due, none comes after the weights.
 record-words-at : (n due m k : ℕ) (bytes : List ℕ) → recordQuestions n due m bytes ≡ pass → 0 < n → due + m ≤ n + 2 → k < m * n → WordAt (recordWords n due m bytes) bytes k (placeOf n due k)
 unfolding recordWords
@@ -144,7 +141,7 @@ record-words-at n due (suc m) k bytes e p last h =
       | yes l ↦ in-record n due m k bytes later passed l
       | no l ↦
           let inside : k - n < m * n = omega arith in
-          let row : due ≤ n = omega (arith, some-left m n inside) in
+          let row : due ≤ n = omega (arith, first-pos m n (omega arith)) in
           past-record n due m k bytes later passed p (omega arith) (row-width n due row) (record-words-at n (suc due) m (k - n) (rest bytes) (passed .later) p (omega arith) inside)
     ]
 

@@ -69,7 +69,7 @@ module _ (n due : ℕ) (words : List ℕ) where
 abbrev pub rowOf : ℕ → ℕ → List ℕ → List ℕ
 rowOf n i words = take n (drop (i * n) words)
 
--- One record more at the end.
+-- One record more at the end; they are due from 1 on.
 records-grow : (n due i : ℕ) (words : List ℕ) → recordsBytes n due (suc i) words ≡ recordsBytes n due i words ++ bytesDue n (due + i) (rowOf n i words)
 unfolding recordsBytes
 records-grow n due zero words = rw (add-zero, zero-mul) (append-nil (bytesDue n due (take n words)))
@@ -79,16 +79,15 @@ records-grow n due (suc i) words =
     rw (records-grow n (suc due) i (drop n words), drop-drop, number, place)
     (sym (append-assoc (bytesDue n due (take n words)) (recordsBytes n (suc due) i (drop n words)) (bytesDue n (due + suc i) (rowOf n (suc i) words))))
 
--- No word is written before the first, and no record.
-pub words-begun : (at : ℕ) (bytes : List ℕ) → Written (wordBytes []) at bytes bytes at
-unfolding wordBytes
-words-begun at bytes = written-nothing at bytes
-
--- The records are due from 1 on.
 pub file-grows : (n : ℕ) (words : List ℕ) (i : ℕ) → recordsBytes n 1 (suc i) words ≡ recordsBytes n 1 i words ++ bytesDue n (i + 1) (rowOf n i words)
 file-grows n words i =
     let number : 1 + i ≡ i + 1 = omega arith in
     rw (records-grow n 1 i words, number)
+
+-- No word is written before the first, and no record.
+pub words-begun : (at : ℕ) (bytes : List ℕ) → Written (wordBytes []) at bytes bytes at
+unfolding wordBytes
+words-begun at bytes = written-nothing at bytes
 
 pub records-begun : (n : ℕ) (words : List ℕ) (at : ℕ) (bytes : List ℕ) → Written (recordsBytes n 1 0 words) at bytes bytes at
 unfolding recordsBytes

@@ -1,7 +1,6 @@
 -- `records::record_end` meets its contract. Assumes nothing.
 use borrow.Author.Needs.{needs}
 use native.Mathlib.Omega.{arith}
-use Prim.Native.Nat.{_+_}
 use mathlib.Core.Path.{_≡_}
 use lib.ListN.{drop}
 use Rattle.definitions.specs.File.{recordLength}
