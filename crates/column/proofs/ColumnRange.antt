@@ -9,10 +9,10 @@ use lib.Ieee.{Float, lt}
 use lib.Ieee.Fits.{and-i, and-l, and-r}
 use borrow.Author.Tests.{le-leb}
 use Rattle.exact.proofs.Bools.{same-truth}
-use Rattle.definitions.specs.Numbers.{_⊕_, _⊗_, _⊘_, smallest, finite, isZero, mulInRange, divInRange, addProductInRange, all}
+use Rattle.definitions.specs.Numbers.{_⊕_, _⊗_, smallest, finite, isZero, mulInRange, divInRange, addProductInRange, all}
 use Rattle.definitions.specs.LeavingRates.{System, p, m↓, m↑, b↓, b↑, solved, columnBefore, columnUpward, column}
-use Rattle.rounding.proofs.Finite.{sum-finite, quotient-finite}
-use Rattle.steps.proofs.All.{each, every}
+use Rattle.rounding.proofs.Finite.{sum-finite, dividend-of-range}
+use Rattle.steps.proofs.All.{each, each-below, every}
 use Rattle.steps.proofs.AddProduct.{product-of-step, step-of-product}
 use Rattle.steps.proofs.LeavingRatesSteps.{column-step, upward-start, upward-step, solved-is}
 use Rattle.column.specs.ColumnSteps.{largeProduct, largeDown, largeUp}
@@ -35,11 +35,7 @@ module _ (r : ℕ) (at : ℕ → System) (j : ℕ) where
   -- ---- finite results, backwards from the answers
   module _ (t : T last) where
     solved-finite : (i : ℕ) → i < r → T (finite (solved r at j i))
-    unfolding divInRange
-    solved-finite i l =
-        let x = solved r at j i in
-        quotient-finite x (p r at i)
-        (and-l (finite (x ⊘ p r at i)) (isZero x || isZero (p r at i) || lt smallest (x ⊘ p r at i)) (each (λ i. divInRange (solved r at j i) (p r at i)) 0 r i t (omega arith) (omega arith)))
+    solved-finite i l = dividend-of-range (solved r at j i) (p r at i) (each-below r (λ i. divInRange (solved r at j i) (p r at i)) t i l)
 
     up-finite : (d q i : ℕ) → suc (i + q + d) ≡ r → T (finite (b↑ r at j q i))
     up-finite zero q i e = let n : r - suc i ≡ q = omega arith in rw (rw n at (solved-is r at j i)) at (solved-finite i (omega arith))

@@ -6,7 +6,7 @@ use mathlib.Core.Bool.{Bool, true, false, _&&_}
 use mathlib.Core.List.{List}
 use lib.Ieee.{Float}
 use Rattle.definitions.specs.Numbers.{_⊘_, divInRange, all}
-use Rattle.definitions.specs.LeavingRates.{System, downward, p, solved}
+use Rattle.definitions.specs.LeavingRates.{none, System, downward, p, solved}
 use Rattle.steps.proofs.All.{all-same}
 use Rattle.steps.proofs.LeavingRatesSteps.{quotient-is}
 use Rattle.tables.specs.RowMajor.{table}
@@ -18,9 +18,9 @@ use Rattle.column.specs.ColumnSteps.{UnitColumn, DownAt, UpAt, DownwardG
 use Rattle.column.proofs.ColumnStages.{unit-column, turns-upward}
 use Rattle.column.proofs.ColumnRange.{column-test}
 
-module _ (r j : ℕ) (f : ℕ → ℕ → Float) {t : List Float} {ok : Bool} (s : SharedTable r f ok t) where
+module _ (r j : ℕ) (f : ℕ → ℕ → Float) {t : List Float} {ok : Bool} (s : SharedTable none r f ok t) where
   at : ℕ → System
-  at = downward r (systemIn f)
+  at = downward r (systemIn none f)
 
   pub out-of-range : ok ≡ false → {b : List Float} → IsVector b → ColumnSolved r j f false b
   out-of-range e h =

@@ -6,7 +6,7 @@ use mathlib.Core.List.{List}
 use lib.Dec.{T, eqb}
 use lib.Ieee.{Float, lt}
 use Rattle.definitions.specs.Numbers.{_⊕_, _⊗_, _⊘_, 0·0, 1·0, smallest, isZero, divInRange, all}
-use Rattle.definitions.specs.LeavingRates.{System, downward, m↓, m↑, b↓, b↑, solved, quotient, shared, column}
+use Rattle.definitions.specs.LeavingRates.{none, System, downward, m↓, m↑, b↓, b↑, solved, quotient, shared, column}
 use Rattle.tables.specs.Operators.{between}
 use Rattle.tables.specs.Vectors.{vector, IsVector, VectorHolds}
 use Rattle.passes.specs.Multipliers.{systemIn, Multipliers}
@@ -61,8 +61,8 @@ pub record QuotientsGive (r : ℕ) (g : ℕ → ℕ → Float) (v : ℕ → Floa
   pub range : ok ≡ all (λ i. divInRange (v i) (g i i)) 0 r
   pub holds : VectorHolds xs (between 0 r (λ i. v i ⊘ g i i) v)
 
--- Column j of the system in f: whether its steps are in range; where they are, its quotients.
+-- Column j of the system in f, without weights: whether its steps are in range; where they are, its quotients.
 pub record ColumnSolved (r j : ℕ) (f : ℕ → ℕ → Float) (ok : Bool) (xs : List Float) : Type 0 where
-  pub range : ok ≡ (shared r (downward r (systemIn f)) && column r (downward r (systemIn f)) j)
-  pub quotients : T ok → (i : ℕ) → i < r → vector xs i ≡ quotient r (downward r (systemIn f)) i j
+  pub range : ok ≡ (shared r (downward r (systemIn none f)) && column r (downward r (systemIn none f)) j)
+  pub quotients : T ok → (i : ℕ) → i < r → vector xs i ≡ quotient r (downward r (systemIn none f)) i j
   pub long : IsVector xs

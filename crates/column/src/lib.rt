@@ -97,7 +97,8 @@ pub fn solve(r: usize, j: usize, t: &mut [f64; 1024], b: &mut [f64; 32]) -> bool
     requires { ⌜ (j ≤ r) × (r ≤ 32) × IsTable (now t) × ZeroVector (now b) ⌝ }
     ensures { λ ok. ⌜ ColumnSolved r j (table (now (t .entry))) ok (now (b .exit)) ⌝ }
 {
-    if !downward::shared(r, t) {
+    let none = [0.0; 0];
+    if !downward::shared(r, &none, t) {
         return false;
     }
     identity(r, j, b);

@@ -7,6 +7,7 @@ use mathlib.Core.Bool.{Bool, _&&_}
 use mathlib.Core.List.{List}
 use lib.Ieee.{Float}
 use Rattle.definitions.specs.Numbers.{_⊘_, divInRange, all}
+use Rattle.definitions.specs.LeavingRates.{Weights}
 use Rattle.steps.proofs.All.{all-same}
 use Rattle.tables.specs.RowMajor.{table, Gives}
 use Rattle.tables.specs.Vectors.{vector, VectorHolds}
@@ -43,13 +44,13 @@ module _ (f : ℕ → ℕ → Float) (i k : ℕ) {x p : Float} (a : x ≡ f i k)
   unfolding onDiagonal
   over-pivot-test e = e ∙ rw (a, b)
 
-pub shared-table : (r : ℕ) (f : ℕ → ℕ → Float) {ys zs : List Float} {down up : Bool}
-    → Gives down (stagesInRange r f r) ys (stagesDone r f r)
+pub shared-table : (w : Weights) (r : ℕ) (f : ℕ → ℕ → Float) {ys zs : List Float} {down up : Bool}
+    → Gives down (stagesInRange w r f r) ys (stagesDone w r f r)
     → Gives up (all (upwardRowInRange r (table ys)) 0 r) zs (upwardRows r r (table ys))
-    → SharedTable r f (down && up) zs
-shared-table r f {ys} g h =
+    → SharedTable w r f (down && up) zs
+shared-table w r f {ys} g h =
     record {
-      range = ap₂ _&&_ (g .range) (h .range ∙ rw (g .holds .is)) ∙ shared-test r f;
+      range = ap₂ _&&_ (g .range) (h .range ∙ rw (g .holds .is)) ∙ shared-test w r f;
       long = h .holds .long;
-      multipliers = rw (h .holds .is ∙ ap (upwardRows r r) (g .holds .is)) (multipliers r f);
+      multipliers = rw (h .holds .is ∙ ap (upwardRows r r) (g .holds .is)) (multipliers w r f);
     }

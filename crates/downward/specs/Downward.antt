@@ -4,7 +4,7 @@ use Prim.Native.Nat.{ℕ}
 use mathlib.Core.Bool.{Bool}
 use mathlib.Core.List.{List}
 use lib.Ieee.{Float}
-use Rattle.definitions.specs.LeavingRates.{downward, shared}
+use Rattle.definitions.specs.LeavingRates.{Weights, downward, shared}
 use Rattle.tables.specs.RowMajor.{IsTable, table}
 use Rattle.passes.specs.Multipliers.{systemIn, Multipliers}
 
@@ -12,8 +12,8 @@ use Rattle.passes.specs.Multipliers.{systemIn, Multipliers}
 unfoldable pub onDiagonal : (ℕ → ℕ → Float) → ℕ → Float
 onDiagonal f k = f k k
 
--- The system in f: whether its steps are in range, and the pivots and multipliers that the table has.
-pub record SharedTable (r : ℕ) (f : ℕ → ℕ → Float) (ok : Bool) (xs : List Float) : Type 0 where
-  pub range : ok ≡ shared r (downward r (systemIn f))
+-- The system in f with weights w: whether its steps are in range, and the pivots and multipliers that the table has.
+pub record SharedTable (w : Weights) (r : ℕ) (f : ℕ → ℕ → Float) (ok : Bool) (xs : List Float) : Type 0 where
+  pub range : ok ≡ shared r (downward r (systemIn w f))
   pub long : IsTable xs
-  pub multipliers : Multipliers r (downward r (systemIn f)) (table xs)
+  pub multipliers : Multipliers r (downward r (systemIn w f)) (table xs)

@@ -1,4 +1,4 @@
-// The steps that serve every column of b, on the table t of sizes and leaving rates: every stage, and
+// The steps that serve every column of b, on the weights and the table t of sizes and leaving rates: every stage, and
 // then the upward multipliers in the place of the sizes after the diagonal.
 use tables::row;
 use tables::vector;
@@ -8,25 +8,26 @@ ghost use Rattle.definitions.specs.Numbers.{all};
 ghost use Rattle.tables.specs.RowMajor.{IsTable, table, Gives};
 ghost use Rattle.tables.specs.Vectors.{vector, IsVector, VectorHolds};
 ghost use Rattle.tables.specs.Operators.{between, span};
+ghost use Rattle.passes.specs.Weights.{weightsIn, Enough};
 ghost use Rattle.passes.specs.Stages.{stagesDone, stagesInRange, overPivot, upwardRows, upwardRowInRange};
 ghost use Rattle.downward.specs.Downward.{onDiagonal, SharedTable};
 
 // Every stage, two at a time and then the one that is left, and whether their steps are in range.
-fn stages(r: usize, t: &mut [f64; 1024]) -> bool
-    requires { ⌜ (r ≤ 32) × IsTable (now t) ⌝ }
-    ensures { λ ok. let f = table (now (t .entry)) in ⌜ Gives ok (stagesInRange r f r) (now (t .exit)) (stagesDone r f r) ⌝ }
+fn stages(r: usize, weights: &[f64], t: &mut [f64; 1024]) -> bool
+    requires { ⌜ (r ≤ 32) × Enough r (now weights) × IsTable (now t) ⌝ }
+    ensures { λ ok. let w = weightsIn (now (weights .entry)) in let f = table (now (t .entry)) in ⌜ Gives ok (stagesInRange w r f r) (now (t .exit)) (stagesDone w r f r) ⌝ }
 {
     let mut ok = true;
     let mut k = 0;
     while k + 1 < r {
-        let told = stage::eliminate_pair(r, k, t);
+        let told = stage::eliminate_pair(r, k, weights, t);
         ok = ok & told;
         k += 2;
     }
     if k == r {
         return ok;
     }
-    let told = stage::last(r, k, t);
+    let told = stage::last(r, k, weights, t);
     ok & told
 }
 
@@ -74,11 +75,11 @@ fn upward_rows(r: usize, t: &mut [f64; 1024]) -> bool
 }
 
 // All of them, and whether they are in range. What t holds outside r × r afterwards is left open.
-pub fn shared(r: usize, t: &mut [f64; 1024]) -> bool
-    requires { ⌜ (r ≤ 32) × IsTable (now t) ⌝ }
-    ensures { λ ok. ⌜ SharedTable r (table (now (t .entry))) ok (now (t .exit)) ⌝ }
+pub fn shared(r: usize, weights: &[f64], t: &mut [f64; 1024]) -> bool
+    requires { ⌜ (r ≤ 32) × Enough r (now weights) × IsTable (now t) ⌝ }
+    ensures { λ ok. ⌜ SharedTable (weightsIn (now (weights .entry))) r (table (now (t .entry))) ok (now (t .exit)) ⌝ }
 {
-    let down = stages(r, t);
+    let down = stages(r, weights, t);
     let up = upward_rows(r, t);
     down & up
 }

@@ -12,5 +12,5 @@ use Rattle.compact.specs.Listing.{Listing}
 pub record LivePacked (n : ℕ) (sheet : List Float) (r : ℕ) (stages : List ℕ) (xs : List Float) : Type 0 where
   pub listing : Listing (takesPart 1 n sheet) n r stages
   pub long : IsTable xs
-  pub sizes : (p q : ℕ) → p < r → q < r → (p ≡ q → ⊥) → table xs p q ≡ liveSystem n sheet .t p q
-  pub exits : (p : ℕ) → p < r → table xs p p ≡ liveSystem n sheet .s p
+  pub sizes : (p q : ℕ) → p < r → q < r → (p ≡ q → ⊥) → table xs p q ≡ liveSystem 1 n sheet .t p q
+  pub exits : (p : ℕ) → p < r → table xs p p ≡ liveSystem 1 n sheet .s p

@@ -1,18 +1,28 @@
 -- What the steps see of a loaded sheet: from zeros the sizes are the sheet's as a function, and the margins too; with the leaving rates
--- on the diagonal it is the sheet's system.
+-- on the diagonal, and the weights, it is the sheet's system.
 use mathlib.Core.Path.{_≡_, sym, ap, _∙_, fun-ext}
-use Prim.Native.Nat.{ℕ, _<_, zero-le}
+use Prim.Native.Nat.{ℕ, _+_, _*_, _-_, _≤_, _<_, zero-le}
+use native.Mathlib.Omega.{arith}
+use mathlib.Core.Bool.{Bool, true, false, cond}
 use mathlib.Core.List.{List}
-use lib.Ieee.{Float}
-use Rattle.exact.proofs.Cases.{by-order}
+use lib.Dec.{eqb}
+use lib.ListN.{length, drop, length-drop}
+use lib.Seq.{getD-drop}
+use lib.Ieee.{Float, nan}
+use Rattle.exact.proofs.Cases.{by-bool, by-order}
 use Rattle.definitions.specs.Numbers.{0·0}
-use Rattle.definitions.specs.Sheet.{size, diagonal, system}
+use Rattle.definitions.specs.LeavingRates.{Weights}
+use Rattle.definitions.specs.Sheet.{sheetNumbers, size, diagonal, weight, weights, system}
 use Rattle.steps.proofs.Sizes.{size-below, size-right, diagonal-below}
+use Rattle.steps.proofs.Weights.{SameWeights}
 use Rattle.steps.proofs.Same.{Same}
 use Rattle.tables.specs.RowMajor.{table, Holds}
 use Rattle.tables.specs.Operators.{replace, between}
 use Rattle.tables.proofs.Operators.{replace-same, replace-other, between-in, between-past}
+use Rattle.shape.specs.Square.{WholeSheet}
+use Rattle.passes.specs.Weights.{weightsIn, Enough}
 use Rattle.passes.specs.Multipliers.{systemIn}
+use Rattle.passes.proofs.Weights.{no-weights, some-weights}
 use Rattle.loading.specs.LoadedTable.{withSizes, withRates}
 
 module _ (n : ℕ) (sheet : List Float) where
@@ -44,10 +54,39 @@ module _ (n : ℕ) (sheet : List Float) where
   unfolding withRates
   rated-row i l = between-in 0 n (λ i. replace i (diagonal n sheet i) (size n sheet i)) (size n sheet) i zero-le l
 
-  pub loaded-system : Same n 0 (systemIn (withRates n sheet (size n sheet))) (system n sheet)
+  pub loaded-system : (reading : ℕ) (w : Weights) → SameWeights n w (weights reading n sheet) → Same n 0 (systemIn w (withRates n sheet (size n sheet))) (system reading n sheet)
   unfolding system
-  loaded-system =
+  loaded-system reading w same =
       record {
         sizes = λ i j _ l _ _ o. ap (λ (row : ℕ → Float). row j) (rated-row i l) ∙ replace-other i (diagonal n sheet i) (size n sheet i) j (λ e. o (sym e));
         exits = λ i _ l. ap (λ (row : ℕ → Float). row i) (rated-row i l) ∙ replace-same i (diagonal n sheet i) (size n sheet i);
+        weights = same;
       }
+
+-- The numbers behind the n × n are the weights: one for each stage in reading 3, and none in the other readings.
+module _ {reading n : ℕ} {sheet : List Float} (whole : WholeSheet reading n sheet) where
+  abbrev tail : List Float
+  tail = drop (n * n) sheet
+
+  tail-length : length (drop (n * n) sheet) ≡ sheetNumbers reading n - n * n
+  tail-length = length-drop (n * n) sheet ∙ ap (λ l. l - n * n) (whole .held)
+
+  pub enough-weights : Enough n (drop (n * n) sheet)
+  unfolding sheetNumbers
+  enough-weights = rw tail-length (go (eqb reading 3))
+    where
+      go : (three : Bool) → 0 < cond three (n * n + n) (n * n) - n * n → n ≤ cond three (n * n + n) (n * n) - n * n
+      go true l = omega arith
+      go false l = let z : ⊥ = omega arith in absurd z
+
+  pub tail-weights : SameWeights n (weightsIn (drop (n * n) sheet)) (weights reading n sheet)
+  unfolding weights weight sheetNumbers
+  tail-weights = by-bool (eqb reading 3)
+      (λ e. rw (e, some-weights tail (rw tail-length (some-left e))) (λ j l. getD-drop (n * n) sheet j nan))
+      (λ e. rw (e, no-weights tail (tail-length ∙ none-left e)) tt)
+    where
+      some-left : eqb reading 3 ≡ true → 0 < sheetNumbers reading n - n * n
+      some-left e = rw e (omega (arith, whole .least))
+
+      none-left : eqb reading 3 ≡ false → sheetNumbers reading n - n * n ≡ 0
+      none-left e = rw e (omega arith)

@@ -10,12 +10,12 @@ use Rattle.exact.proofs.Cases.{by-bool}
 use Rattle.exact.proofs.Bools.{and-assoc, holds}
 use mathlib.Core.Bool.{and-false, and-true, Bool, true, false, not, _&&_, _||_}
 use Rattle.definitions.specs.Numbers.{_⊗_, mulInRange, all}
-use Rattle.definitions.specs.LeavingRates.{downward, quotient, inRange}
+use Rattle.definitions.specs.LeavingRates.{none, downward, quotient, inRange}
 use Rattle.definitions.specs.Compact.{rank}
 use Rattle.definitions.specs.Margins.{keptSystem, y, known, xAfter, ratioInRange, backInRange, joinInRange, everyStep, marginsInRange}
 use Rattle.steps.proofs.All.{all-below}
 use Rattle.steps.proofs.Same.{Same, same-quotient, same-in-range}
-use Rattle.steps.proofs.MarginsSteps.{y-is, x-start, known-is, entry-is}
+use Rattle.steps.proofs.MarginsSteps.{kept-weights, y-is, x-start, known-is, entry-is}
 use Rattle.tables.specs.RowMajor.{IsTable, table}
 use Rattle.tables.specs.Operators.{between}
 use Rattle.tables.specs.Rows.{timesInRange}
@@ -43,14 +43,14 @@ module _ {n : ℕ} {t : ℕ → ℕ → Float} {d : ℕ → Float} {a k : List F
   k-at i = ap (λ v. v i) (ratios .k-is .is)
 
   -- The engine on the packed system s.
-  module _ {scaled : Bool} {s : List Float} (system : KeptSystem n t d r scaled s) {ok : Bool} {ys : List Float} (solved : QuotientTable r (table s) ok ys) where
-    alike : Same r 0 (systemIn (table s)) (keptSystem n t d (ratio n t d))
-    alike = record { sizes = λ p q _ l _ m o. system .sizes p q l m o; exits = λ p _ l. system .exits p l }
+  module _ {scaled : Bool} {s : List Float} (system : KeptSystem n t d r scaled s) {ok : Bool} {ys : List Float} (solved : QuotientTable none r (table s) ok ys) where
+    alike : Same r 0 (systemIn none (table s)) (keptSystem n t d (ratio n t d))
+    alike = record { sizes = λ p q _ l _ m o. system .sizes p q l m o; exits = λ p _ l. system .exits p l; weights = rw (kept-weights n t d (ratio n t d)) tt }
 
     engine-test : ok ≡ engineInRange n t d
     engine-test =
         solved .range
-        ∙ same-in-range r (systemIn (table s)) (keptSystem n t d (ratio n t d)) alike
+        ∙ same-in-range r (systemIn none (table s)) (keptSystem n t d (ratio n t d)) alike
         ∙ ap (λ r. inRange r (downward r (keptSystem n t d (ratio n t d)))) (kept-list .counted)
 
     pub engine-fails : ok ≡ false → {xs : List Float} → IsTable xs → KeptTable n t d false xs
@@ -65,7 +65,7 @@ module _ {n : ℕ} {t : ℕ → ℕ → Float} {d : ℕ → Float} {a k : List F
       y-at : (p q : ℕ) → p < r → q < r → table ys p q ≡ y n t d (ratio n t d) (stageAt stages p) (stageAt stages q)
       y-at p q l m =
           solved .quotients (holds held) p q l m
-          ∙ same-quotient r (systemIn (table s)) (keptSystem n t d (ratio n t d)) alike p q l
+          ∙ same-quotient r (systemIn none (table s)) (keptSystem n t d (ratio n t d)) alike p q l
           ∙ ap (λ r. quotient r (downward r (keptSystem n t d (ratio n t d))) p q) (kept-list .counted)
           ∙ ap₂ (quotient (rank (isKept n t d) n) (downward (rank (isKept n t d) n) (keptSystem n t d (ratio n t d)))) (sym (listing-stage kept-list p l .place)) (sym (listing-stage kept-list q m .place))
           ∙ sym (y-is n t d (ratio n t d) (stageAt stages p) (stageAt stages q))

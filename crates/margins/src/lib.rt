@@ -25,7 +25,8 @@ fn solve_kept(
     let mut y = [0.0; 1024];
     let r = compact::list(n, kept, &mut stages);
     let scaled = kept::system(n, r, &stages, t, d, a, k, kept, &mut s);
-    if !elimination::solve(r, &mut s, &mut y) {
+    let none = [0.0; 0];
+    if !elimination::solve(r, &none, &mut s, &mut y) {
         return false;
     }
     let back = way_back::back(r, &stages, k, &mut y);

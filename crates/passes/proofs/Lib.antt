@@ -1,5 +1,6 @@
 -- What the tests tell; the steps that serve every column; the steps on b, row by row.
 pub mod Told
+pub mod Weights
 mod StagePlaces
 mod PairRow
 pub mod PairStages

@@ -9,29 +9,30 @@ use mathlib.Core.List.{List}
 use lib.Ieee.{Float}
 use lib.Ieee.Fits.{and-i, and-l}
 use Rattle.exact.proofs.Cases.{by-equal, by-order}
-use Rattle.definitions.specs.Numbers.{finite}
-use Rattle.definitions.specs.LeavingRates.{pivot}
+use Rattle.definitions.specs.Numbers.{all}
+use Rattle.definitions.specs.LeavingRates.{Weights, pivot, pivotInRange, rowInRange, stageInRange}
 use Rattle.steps.proofs.All.{every}
-use Rattle.steps.proofs.Pivot.{pivot-same}
+use Rattle.steps.proofs.Weights.{weights-refl}
+use Rattle.steps.proofs.Pivot.{pivot-same, in-range-finite}
 use Rattle.tables.specs.RowMajor.{Holds}
 use Rattle.tables.specs.Operators.{replace, between, put}
 use Rattle.tables.proofs.Operators.{replace-same, replace-other, between-in, between-low, between-out, between-none, between-step}
 use Rattle.passes.specs.Multipliers.{systemIn}
-use Rattle.passes.specs.Stages.{IsStage, rowTest, rowTests, multiplierRow, multipliedRows, eliminatedRow, eliminatedRows, columnRow, nextBegun, pairRow, pairRows, stageDone}
-use Rattle.passes.specs.StageTests.{Alike, stageTested, StageFinds}
+use Rattle.passes.specs.Stages.{IsStage, multiplierRow, multipliedRows, eliminatedRow, eliminatedRows, columnRow, nextBegun, pairRow, pairRows, stageDone}
+use Rattle.passes.specs.StageTests.{Alike, StageFinds}
 use Rattle.passes.proofs.StagePlaces.{pivot-row, earlier-row-keeps, past-row-keeps, later-row}
 use Rattle.passes.proofs.PairRow.{column-same, atOnce, oneByOne, at-once}
 
-module _ (r k : ℕ) (f : ℕ → ℕ → Float) (l : suc k < r) where
+module _ (w : Weights) (r k : ℕ) (f : ℕ → ℕ → Float) (l : suc k < r) where
   -- The pivot of stage k, the table after it, and the pivot of stage k + 1.
   abbrev p : Float
-  p = pivot r (systemIn f) k
+  p = pivot r (systemIn w f) k
 
   abbrev after : ℕ → ℕ → Float
-  after = stageDone r k f
+  after = stageDone w r k f
 
   abbrev p' : Float
-  p' = pivot r (systemIn after) (suc k)
+  p' = pivot r (systemIn w after) (suc k)
 
   -- The table with the multipliers of stage k, as stage k + 1 begins, with its multipliers, and with the rows of both.
   abbrev multiplied : ℕ → ℕ → Float
@@ -74,7 +75,7 @@ module _ (r k : ℕ) (f : ℕ → ℕ → Float) (l : suc k < r) where
   next-row =
       between-low (suc (suc k)) r (columnRow k multiplied) first (suc k) (omega arith)
       ∙ replace-same (suc k) (eliminatedRow r k (f k k) multiplied (suc k)) multiplied
-      ∙ sym (later-row r k f (suc k) (omega arith) l)
+      ∙ sym (later-row w r k f (suc k) (omega arith) l)
 
   -- Row i after it.
   module _ (i : ℕ) (a : suc k < i) (b : i < r) where
@@ -85,7 +86,7 @@ module _ (r k : ℕ) (f : ℕ → ℕ → Float) (l : suc k < r) where
     next-column : after i (suc k) ≡ begun i (suc k)
     unfolding columnRow eliminatedRow
     next-column =
-        ap (λ (row : ℕ → Float). row (suc k)) (later-row r k f i (omega arith) b)
+        ap (λ (row : ℕ → Float). row (suc k)) (later-row w r k f i (omega arith) b)
         ∙ sym (column-same r k i a b (f k k) (multiplied i) (multiplied k))
         ∙ sym (ap (λ (row : ℕ → Float). row (suc k)) begun-row)
 
@@ -102,12 +103,12 @@ module _ (r k : ℕ) (f : ℕ → ℕ → Float) (l : suc k < r) where
   begun-first = begun-keeps k (λ a b. omega arith) ∙ sym (multiplied-keeps k (λ a b. omega arith))
 
   -- So the stage begins as it would after stage k, and its tests look at the same numbers.
-  pub next-stage : {s p : Float} → IsStage r (suc k) begun s p → IsStage r (suc k) after s p
+  pub next-stage : {s p : Float} → IsStage w r (suc k) begun s p → IsStage w r (suc k) after s p
   next-stage h =
       let place : (j : ℕ) → begun (suc k) j ≡ after (suc k) j = λ j. ap (λ (row : ℕ → Float). row j) next-row in
       record {
         sum = h .sum ∙ place (suc k);
-        pivots = h .pivots ∙ pivot-same r (suc k) (systemIn begun) (systemIn after) (place (suc k)) (λ j a b. place j);
+        pivots = h .pivots ∙ pivot-same r (suc k) (systemIn w begun) (systemIn w after) l (place (suc k)) (λ j a b. place j) (weights-refl r w);
       }
 
   pub alike : Alike r (suc k) begun after
@@ -133,11 +134,11 @@ module _ (r k : ℕ) (f : ℕ → ℕ → Float) (l : suc k < r) where
         between-in (suc (suc k)) r (pairRow r k (f k k) (after (suc k) (suc k)) both) both i a b
         ∙ rw (both-row i a b, begun-row i a b, both-up-to k (omega arith), both-up-to (suc k) (omega arith), next-row, begun-first)
 
-    stages-one-by-one : stageDone r (suc k) after i ≡ oneByOne r k i a b (f k k) (multiplied i) (multiplied k) (after (suc k) (suc k)) p' (after (suc k))
+    stages-one-by-one : stageDone w r (suc k) after i ≡ oneByOne r k i a b (f k k) (multiplied i) (multiplied k) (after (suc k) (suc k)) p' (after (suc k))
     unfolding eliminatedRow multiplierRow
     stages-one-by-one =
-        later-row r (suc k) after i a b
-        ∙ rw (second-row i a b, second-up-to (suc k) (omega arith), later-row r k f i (omega arith) b)
+        later-row w r (suc k) after i a b
+        ∙ rw (second-row i a b, second-up-to (suc k) (omega arith), later-row w r k f i (omega arith) b)
 
   -- The pivots in their places.
   inner : ℕ → ℕ → Float
@@ -172,51 +173,51 @@ module _ (r k : ℕ) (f : ℕ → ℕ → Float) (l : suc k < r) where
       ∙ rows-keep i (λ a b. n (omega arith) b)
       ∙ begun-keeps i (λ a b. n (omega arith) b)
 
-  pub pair-done : put (suc k) (suc k) p' (put k k p rows) ≡ stageDone r (suc k) after
+  pub pair-done : put (suc k) (suc k) p' (put k k p rows) ≡ stageDone w r (suc k) after
   unfolding inner outer
   pair-done =
       fun-ext (λ i. by-order k i
       (λ a. by-order r i
-      (λ b. kept i (λ c d. omega arith) ∙ sym (past-row-keeps r (suc k) after l i b ∙ past-row-keeps r k f (omega arith) i b))
+      (λ b. kept i (λ c d. omega arith) ∙ sym (past-row-keeps w r (suc k) after l i b ∙ past-row-keeps w r k f (omega arith) i b))
       (λ b. by-equal i k
-      (λ e. rw e (outer-else k (λ c. omega arith) ∙ inner-first ∙ sym (earlier-row-keeps r (suc k) after k (omega arith) ∙ pivot-row r k f)))
+      (λ e. rw e (outer-else k (λ c. omega arith) ∙ inner-first ∙ sym (earlier-row-keeps w r (suc k) after k (omega arith) ∙ pivot-row w r k f)))
       (λ n. by-equal i (suc k)
-      (λ e. rw e (outer-next ∙ sym (pivot-row r (suc k) after)))
+      (λ e. rw e (outer-next ∙ sym (pivot-row w r (suc k) after)))
       (λ m. outer-else i m ∙ inner-else i n ∙ rows-at-once i (omega arith) b ∙ at-once r k i (omega arith) b (f k k) (multiplied i) (multiplied k) (after (suc k) (suc k)) p' (after (suc k)) ∙ sym (stages-one-by-one i (omega arith) b)))))
-      (λ a. kept i (λ c d. omega arith) ∙ sym (earlier-row-keeps r (suc k) after i (omega arith) ∙ earlier-row-keeps r k f i (omega arith))))
+      (λ a. kept i (λ c d. omega arith) ∙ sym (earlier-row-keeps w r (suc k) after i (omega arith) ∙ earlier-row-keeps w r k f i (omega arith))))
 
 -- With no later rows, stage k has done all that stage k + 1 needs.
-pub next-done : (r k : ℕ) (f : ℕ → ℕ → Float) → suc (suc k) ≡ r → put k k (pivot r (systemIn f) k) (nextBegun r k (f k k) (multipliedRows k (pivot r (systemIn f) k) r f)) ≡ stageDone r k f
+pub next-done : (w : Weights) (r k : ℕ) (f : ℕ → ℕ → Float) → suc (suc k) ≡ r → put k k (pivot r (systemIn w f) k) (nextBegun r k (f k k) (multipliedRows k (pivot r (systemIn w f) k) r f)) ≡ stageDone w r k f
 unfolding stageDone nextBegun eliminatedRows
-next-done r k f e =
-    let g = multipliedRows k (pivot r (systemIn f) k) r f in
+next-done w r k f e =
+    let g = multipliedRows k (pivot r (systemIn w f) k) r f in
     let row = eliminatedRow r k (f k k) g in
-    ap (put k k (pivot r (systemIn f) k))
+    ap (put k k (pivot r (systemIn w f) k))
     (between-none (suc (suc k)) r (columnRow k g) (replace (suc k) (row (suc k)) g) (omega arith)
     ∙ ap (replace (suc k) (row (suc k))) (sym (between-none (suc k) (suc k) row g (le-refl (suc k))))
     ∙ between-step (suc k) (suc k) row g (le-refl (suc k))
     ∙ ap (λ (hi : ℕ). between (suc k) hi row g) (add-one (suc k) ∙ e))
 
 -- The last stage has no rows: it leaves its pivot, and the pivot's test is all of its test.
-last-done : (r k : ℕ) (f : ℕ → ℕ → Float) → suc k ≡ r → stageDone r k f ≡ put k k (pivot r (systemIn f) k) f
+last-done : (w : Weights) (r k : ℕ) (f : ℕ → ℕ → Float) → suc k ≡ r → stageDone w r k f ≡ put k k (pivot r (systemIn w f) k) f
 unfolding stageDone eliminatedRows multipliedRows
-last-done r k f e =
-    let p = pivot r (systemIn f) k in
+last-done w r k f e =
+    let p = pivot r (systemIn w f) k in
     rw (between-none (suc k) r (multiplierRow k p f) f (omega arith), between-none (suc k) r (eliminatedRow r k (f k k) f) f (omega arith))
 
 pub last-stage :
-    (r k : ℕ) (f : ℕ → ℕ → Float) {s p : Float} {ok : Bool} {xs : List Float}
-    → suc k ≡ r → IsStage r k f s p → Holds xs (put k k p f) → ok ≡ finite p → StageFinds r k f ok xs
-unfolding stageTested
-last-stage r k f {ok = ok} e h w t =
-    let q = pivot r (systemIn f) k in
-    let same : ok ≡ finite q = t ∙ ap finite (h .pivots) in
+    (w : Weights) (r k : ℕ) (f : ℕ → ℕ → Float) {s p : Float} {ok : Bool} {xs : List Float}
+    → suc k ≡ r → IsStage w r k f s p → Holds xs (put k k p f) → ok ≡ pivotInRange r (systemIn w f) k → StageFinds w r k f ok xs
+unfolding stageInRange
+last-stage w r k f {ok = ok} e h held t =
+    let own = pivotInRange r (systemIn w f) k in
+    let rows = all (rowInRange r (λ _. systemIn w f) k) (suc k) (r - suc k) in
     record {
       told =
           record {
-            passes = λ u. rw same (and-l (finite q) (rowTests r k q f) u);
-            tells = λ g u. and-i (finite q) (rowTests r k q f) (rw same at u) (every (λ i. rowTest r k i q (f i) (f k)) (suc k) (r - suc k) (λ i m n. let z : ⊥ = omega arith in absurd z));
+            passes = λ u. rw t (and-l own rows u);
+            tells = λ g u. and-i own rows (rw t at u) (every (rowInRange r (λ _. systemIn w f) k) (suc k) (r - suc k) (λ i m n. let z : ⊥ = omega arith in absurd z));
           };
-      tested = λ u. rw same at u;
-      holds = record { long = w .long; is = w .is ∙ ap (λ x. put k k x f) (h .pivots) ∙ sym (last-done r k f e) };
+      tested = λ u. in-range-finite r (systemIn w f) k (rw t at u);
+      holds = record { long = held .long; is = held .is ∙ ap (λ x. put k k x f) (h .pivots) ∙ sym (last-done w r k f e) };
     }

@@ -1,4 +1,5 @@
 pub mod Told
+pub mod Weights
 pub mod Multipliers
 pub mod Stages
 pub mod StageTests

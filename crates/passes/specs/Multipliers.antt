@@ -2,11 +2,11 @@
 use mathlib.Core.Path.{_≡_}
 use Prim.Native.Nat.{ℕ, _<_}
 use lib.Ieee.{Float}
-use Rattle.definitions.specs.LeavingRates.{System, p, m↓, m↑}
+use Rattle.definitions.specs.LeavingRates.{Weights, System, p, m↓, m↑}
 
--- A table as a system: the sizes t_ij off the diagonal, and s_i on it.
-abbrev pub systemIn : (ℕ → ℕ → Float) → System
-systemIn f = record { t = f; s = λ i. f i i }
+-- A table as a system with weights w: the sizes t_ij off the diagonal, and s_i on it.
+abbrev pub systemIn : Weights → (ℕ → ℕ → Float) → System
+systemIn w f = record { t = f; s = λ i. f i i; z = w }
 
 -- The pivots on the diagonal, and at place (i, k) the multiplier of row i at stage k.
 pub record Multipliers (r : ℕ) (at : ℕ → System) (f : ℕ → ℕ → Float) : Type 0 where

@@ -6,7 +6,7 @@ use mathlib.Core.Path.{_≡_}
 use lib.Dec.{T}
 use lib.Ieee.{Float}
 use Rattle.definitions.specs.Numbers.{_⊕_, _⊗_, _⊘_, finite}
-use Rattle.definitions.specs.LeavingRates.{pivot}
+use Rattle.definitions.specs.LeavingRates.{Weights, pivot, pivotInRange, stageInRange}
 use Rattle.tables.specs.RowMajor.{Holds}
 use Rattle.passes.specs.Told.{Told}
 use Rattle.passes.specs.Multipliers.{systemIn}
@@ -32,27 +32,27 @@ pub record Alike (r k : ℕ) (f g : ℕ → ℕ → Float) : Type 0 where
 abbrev pub RowsTold : ℕ → ℕ → Float → (ℕ → ℕ → Float) → Bool → Type 0
 RowsTold r k p f ok = (g : ℕ → ℕ → Float) → Alike r k f g → Told ok (rowTests r k p g) (StageFinite r k p g)
 
--- A stage's test as the code makes it.
-unfoldable pub stageTested : ℕ → ℕ → (ℕ → ℕ → Float) → Bool
-stageTested r k f = let p = pivot r (systemIn f) k in finite p && rowTests r k p f
+-- Document 01's test of stage k on the table f.
+abbrev pub stageTest : Weights → ℕ → ℕ → (ℕ → ℕ → Float) → Bool
+stageTest w r k f = stageInRange r (λ _. systemIn w f) k
 
 -- A function that does stage k up to its multipliers, and tells of its tests. The pivot's part is made as it stands, so ok alone gives it.
-pub record StageBegins (r k : ℕ) (f : ℕ → ℕ → Float) (s p : Float) (ok : Bool) (xs : List Float) : Type 0 where
-  pub stage : IsStage r k f s p
-  pub told : (g : ℕ → ℕ → Float) → Alike r k f g → Told ok (finite p && rowTests r k p g) (StageFinite r k p g)
+pub record StageBegins (w : Weights) (r k : ℕ) (f : ℕ → ℕ → Float) (s p : Float) (ok : Bool) (xs : List Float) : Type 0 where
+  pub stage : IsStage w r k f s p
+  pub told : (g : ℕ → ℕ → Float) → Alike r k f g → Told ok (pivotInRange r (systemIn w f) k && rowTests r k p g) (StageFinite r k p g)
   pub tested : T ok → T (finite p)
   pub holds : Holds xs (multipliedRows k p r f)
 
 -- A function that does stage k, and tells so of its test.
-pub record StageFinds (r k : ℕ) (f : ℕ → ℕ → Float) (ok : Bool) (xs : List Float) : Type 0 where
-  pub told : Told ok (stageTested r k f) (StageFinite r k (pivot r (systemIn f) k) f)
-  pub tested : T ok → T (finite (pivot r (systemIn f) k))
-  pub holds : Holds xs (stageDone r k f)
+pub record StageFinds (w : Weights) (r k : ℕ) (f : ℕ → ℕ → Float) (ok : Bool) (xs : List Float) : Type 0 where
+  pub told : Told ok (stageTest w r k f) (StageFinite r k (pivot r (systemIn w f) k) f)
+  pub tested : T ok → T (finite (pivot r (systemIn w f) k))
+  pub holds : Holds xs (stageDone w r k f)
 
 -- A function that does stages k and k + 1, and tells so of both tests.
-pub record PairFinds (r k : ℕ) (f : ℕ → ℕ → Float) (ok : Bool) (xs : List Float) : Type 0 where
+pub record PairFinds (w : Weights) (r k : ℕ) (f : ℕ → ℕ → Float) (ok : Bool) (xs : List Float) : Type 0 where
   pub told : Told ok
-      (stageTested r k f && stageTested r (suc k) (stageDone r k f))
-      (StageFinite r k (pivot r (systemIn f) k) f × StageFinite r (suc k) (pivot r (systemIn (stageDone r k f)) (suc k)) (stageDone r k f))
-  pub tested : T ok → T (finite (pivot r (systemIn f) k)) × T (finite (pivot r (systemIn (stageDone r k f)) (suc k)))
-  pub holds : Holds xs (stageDone r (suc k) (stageDone r k f))
+      (stageTest w r k f && stageTest w r (suc k) (stageDone w r k f))
+      (StageFinite r k (pivot r (systemIn w f) k) f × StageFinite r (suc k) (pivot r (systemIn w (stageDone w r k f)) (suc k)) (stageDone w r k f))
+  pub tested : T ok → T (finite (pivot r (systemIn w f) k)) × T (finite (pivot r (systemIn w (stageDone w r k f)) (suc k)))
+  pub holds : Holds xs (stageDone w r (suc k) (stageDone w r k f))

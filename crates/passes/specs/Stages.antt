@@ -6,15 +6,15 @@ use mathlib.Core.Bool.{Bool, _&&_, _||_}
 use lib.Dec.{eqb}
 use lib.Ieee.{Float}
 use Rattle.definitions.specs.Numbers.{_⊕_, _⊗_, _⊘_, divInRange, addProductInRange, all}
-use Rattle.definitions.specs.LeavingRates.{pivot, stageInRange}
+use Rattle.definitions.specs.LeavingRates.{Weights, pivot, stageInRange}
 use Rattle.tables.specs.Operators.{replace, between, put}
 use Rattle.tables.specs.Rows.{plusMultiple}
 use Rattle.passes.specs.Multipliers.{systemIn}
 
 -- The running sum s and the pivot p of stage k.
-pub record IsStage (r k : ℕ) (f : ℕ → ℕ → Float) (s p : Float) : Type 0 where
+pub record IsStage (w : Weights) (r k : ℕ) (f : ℕ → ℕ → Float) (s p : Float) : Type 0 where
   pub sum : s ≡ f k k
-  pub pivots : p ≡ pivot r (systemIn f) k
+  pub pivots : p ≡ pivot r (systemIn w f) k
 
 -- First the multipliers, in column k: row i, and the rows after k and before hi.
 unfoldable pub multiplierRow : ℕ → Float → (ℕ → ℕ → Float) → ℕ → ℕ → Float
@@ -49,12 +49,12 @@ unfoldable pub pairRows : ℕ → ℕ → Float → Float → (ℕ → ℕ → F
 pairRows r k s s' f = between (suc (suc k)) r (pairRow r k s s' f) f
 
 -- Stage k, which leaves its pivot on the diagonal; and the stages before k.
-unfoldable pub stageDone : ℕ → ℕ → (ℕ → ℕ → Float) → ℕ → ℕ → Float
-stageDone r k f = let p = pivot r (systemIn f) k in put k k p (eliminatedRows r k (f k k) r (multipliedRows k p r f))
+unfoldable pub stageDone : Weights → ℕ → ℕ → (ℕ → ℕ → Float) → ℕ → ℕ → Float
+stageDone w r k f = let p = pivot r (systemIn w f) k in put k k p (eliminatedRows r k (f k k) r (multipliedRows k p r f))
 
-unfoldable pub stagesDone : ℕ → (ℕ → ℕ → Float) → ℕ → ℕ → ℕ → Float
-stagesDone r f zero = f
-stagesDone r f (suc k) = stageDone r k (stagesDone r f k)
+unfoldable pub stagesDone : Weights → ℕ → (ℕ → ℕ → Float) → ℕ → ℕ → ℕ → Float
+stagesDone w r f zero = f
+stagesDone w r f (suc k) = stageDone w r k (stagesDone w r f k)
 
 -- Row i at stage k, whose pivot is p, in range: the multiplier, the leaving rate, the sizes off the diagonal. The running sum stands in column k of the other row.
 unfoldable pub rowTest : ℕ → ℕ → ℕ → Float → (ℕ → Float) → (ℕ → Float) → Bool
@@ -67,8 +67,8 @@ rowTest r k i p own other =
 abbrev pub rowTests : ℕ → ℕ → Float → (ℕ → ℕ → Float) → Bool
 rowTests r k p f = all (λ i. rowTest r k i p (f i) (f k)) (suc k) (r - suc k)
 
-unfoldable pub stagesInRange : ℕ → (ℕ → ℕ → Float) → ℕ → Bool
-stagesInRange r f k = all (λ l. stageInRange r (λ _. systemIn (stagesDone r f l)) l) 0 k
+unfoldable pub stagesInRange : Weights → ℕ → (ℕ → ℕ → Float) → ℕ → Bool
+stagesInRange w r f k = all (λ l. stageInRange r (λ _. systemIn w (stagesDone w r f l)) l) 0 k
 
 -- The upward multipliers, where every stage is done: sizes after the diagonal over the pivots of their columns, in the rows before hi.
 unfoldable pub overPivot : (ℕ → ℕ → Float) → ℕ → ℕ → Float

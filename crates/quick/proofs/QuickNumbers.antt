@@ -1,7 +1,7 @@
 -- A number that passes its quick test passes questions 6, 7 and 8.
 use mathlib.Core.Path.{_≡_, refl, sym, subst}
 use mathlib.Core.Logic.{_⊎_, inl, inr, ⊎-elim}
-use mathlib.Core.Bool.{Bool, true, false, cond, Bool·beq, _&&_, _||_}
+use mathlib.Core.Bool.{Bool, true, false, cond, Bool·beq, _&&_, _||_, and-true, and-false}
 use Prim.Native.Nat.{ℕ, zero, suc, _+_, _*_, _^_, _≤_, _<_}
 use native.Mathlib.Nat.{zero-mul}
 use native.Mathlib.Omega.{arith}
@@ -16,17 +16,17 @@ use Rattle.definitions.specs.Questions.{largeEnough}
 use Rattle.rounding.proofs.Finite.{zero-finite}
 use Rattle.rounding.proofs.Words.{zero-word, smallest-word, largest-word}
 use Rattle.places.specs.PlaceQuestions.{signAt, passes}
-use Rattle.quick.specs.QuickPass.{PassesOn, PassesOff}
+use Rattle.quick.specs.QuickPass.{PassesOn, PassesOff, PassesWeight, within}
 
 either : (c a b : Bool) → T a → T b → T (cond c a b)
 either true a b p q = p
 either false a b p q = q
 
 -- The three questions of a number are the only ones.
-passes-all : (reading i j : ℕ) (x : Float) → T (finite x) → T (signAt reading i j x) → T (largeEnough x) → (question : ℕ) → T (passes question reading i j x)
+passes-all : (reading n i j : ℕ) (x : Float) → T (finite x) → T (signAt reading n i j x) → T (largeEnough x) → (question : ℕ) → T (passes question reading n i j x)
 unfolding passes
-passes-all reading i j x f s l question =
-    let sign = signAt reading i j x in
+passes-all reading n i j x f s l question =
+    let sign = signAt reading n i j x in
     let large = largeEnough x in
     either (eqb question 6) (finite x) (cond (eqb question 7) sign large) f (either (eqb question 7) sign large s l)
 
@@ -37,7 +37,7 @@ zero-large x t = or-l (isZero x || le smallest x) (le x (neg smallest)) (or-l (i
 -- ---- a number off the diagonal
 off-diagonal : (x : Float) → T (finite x) → T (le x 0·0) → T (largeEnough x) → PassesOff x
 unfolding signAt
-off-diagonal x f s l = record { at = λ question reading i j d. passes-all reading i j x f (rw (ne-eqb i j d) s) l question }
+off-diagonal x f s l = record { at = λ question reading n i j o d. passes-all reading n i j x f (rw (ne-eqb i n o, ne-eqb i j d) s) l question }
 
 zero-size : (x : Float) → T (isZero x) → PassesOff x
 unfolding isZero le
@@ -76,8 +76,7 @@ unfolding largeEnough
 large-size x l h = off-diagonal x (negative-finite x l h) (below-zero x h) (or-r (isZero x || le smallest x) (le x (neg smallest)) h)
 
 -- The test by the literals of the program.
-pub size-passes : (x : Float)
-    → T (eq x (ofBits binary64 0) || (le (neg (ofBits binary64 9218868437227405311)) x && le x (neg (ofBits binary64 4503599627370496)))) → PassesOff x
+pub size-passes : (x : Float) → T (within true (neg (ofBits binary64 9218868437227405311)) (neg (ofBits binary64 4503599627370496)) x) → PassesOff x
 unfolding isZero
 size-passes x t =
     let low = le (neg largest) x in
@@ -85,12 +84,12 @@ size-passes x t =
     ⊎-elim
     (λ z. zero-size x z)
     (λ b. large-size x (and-l low high b) (and-r low high b))
-    (or-cases (isZero x) (low && high) (rw (zero-word, smallest-word, largest-word) at t))
+    (or-cases (isZero x) (low && high) (rw (zero-word, smallest-word, largest-word, and-true) at t))
 
 -- ---- a number on the diagonal
 on-diagonal : (reading : ℕ) (x : Float) → T (finite x) → T (cond (eqb reading 1) (le 0·0 x) (lt 0·0 x)) → T (largeEnough x) → PassesOn reading x
 unfolding signAt
-on-diagonal reading x f s l = record { at = λ question i. passes-all reading i i x f (rw (eq-eqb i i refl) s) l question }
+on-diagonal reading x f s l = record { at = λ question n i o. passes-all reading n i i x f (rw (ne-eqb i n o, eq-eqb i i refl) s) l question }
 
 both-zero : (s : Bool) (a b : ℕ) → a ≡ 0 → b ≡ 0 → T (level false a s b)
 both-zero s a b e f = rw (e, f) (or-r (Bool·beq false s) true tt)
@@ -139,13 +138,17 @@ above-zero (fin false m d) h =
     let p = some-factor (m * up d) (2 ^ 1022) (1 * 1 * down d) (down-some d) (at-least (1 * 1 * down d) (m * up d * 2 ^ 1022) h) in
     scaled (m * up d) (down d) p
 
+large : (x : Float) → T (le smallest x) → T (largeEnough x)
+unfolding largeEnough
+large x l = or-l (isZero x || le smallest x) (le x (neg smallest)) (or-r (isZero x) (le smallest x) l)
+
 large-parameter : (reading : ℕ) (x : Float) → T (le smallest x) → T (le x largest) → PassesOn reading x
-unfolding le largeEnough
+unfolding le
 large-parameter reading x l h =
     let p = above-zero x l in
     on-diagonal reading x (positive-finite x l h)
     (either (eqb reading 1) (le 0·0 x) (lt 0·0 x) (or-l (lt 0·0 x) (eq 0·0 x) p) p)
-    (or-l (isZero x || le smallest x) (le x (neg smallest)) (or-r (isZero x) (le smallest x) l))
+    (large x l)
 
 pub parameter-passes : (reading : ℕ) (x : Float)
     → T ((eq x (ofBits binary64 0) && eqb reading 1) || (le (ofBits binary64 4503599627370496) x && le x (ofBits binary64 9218868437227405311))) → PassesOn reading x
@@ -157,3 +160,13 @@ parameter-passes reading x t =
     (λ z. subst (λ r. PassesOn r x) (sym (eqb→eq reading 1 (and-r (isZero x) (eqb reading 1) z))) (zero-parameter x (and-l (isZero x) (eqb reading 1) z)))
     (λ b. large-parameter reading x (and-l low high b) (and-r low high b))
     (or-cases (isZero x && eqb reading 1) (low && high) (rw (zero-word, smallest-word, largest-word) at t))
+
+-- ---- a weight
+pub weight-passes : (x : Float) → T (within false (ofBits binary64 4503599627370496) (ofBits binary64 9218868437227405311) x) → PassesWeight x
+unfolding signAt isZero
+weight-passes x t =
+    let low = le smallest x in
+    let high = le x largest in
+    let both : T (low && high) = rw (zero-word, smallest-word, largest-word, and-false) at t in
+    let l = and-l low high both in
+    record { at = λ question reading n j. passes-all reading n n j x (positive-finite x l (and-r low high both)) (rw (eq-eqb n n refl) (above-zero x l)) (large x l) question }

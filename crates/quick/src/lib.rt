@@ -3,9 +3,10 @@
 ghost use mathlib.Core.Path.{_≡_};
 ghost use lib.Dec.{T};
 ghost use Rattle.definitions.specs.Questions.{pass, placeQuestions};
-ghost use Rattle.shape.specs.Square.{Square};
-ghost use Rattle.quick.specs.QuickPass.{DiagonalPasses, StretchPasses, SizesPass};
+ghost use Rattle.shape.specs.Square.{Square, WholeSheet};
+ghost use Rattle.quick.specs.QuickPass.{DiagonalPasses, PartWithin, StretchPasses, SizesPass, WeightsPass};
 use shape::number_at;
+use shape::weights_of;
 
 // Questions 6, 7 and 8 of the diagonal: each number is zero (reading 1), or from 2^-1022 to the largest number.
 fn diagonal_passes(reading: usize, n: usize, sheet: &[f64]) -> bool
@@ -22,19 +23,42 @@ fn diagonal_passes(reading: usize, n: usize, sheet: &[f64]) -> bool
     good
 }
 
-// The same questions of numbers off the diagonal: each is zero, or from minus the largest number to -2^-1022.
-fn stretch_passes(part: &[f64]) -> bool
-    ensures { λ r. ⌜ (T r → StretchPasses (now (part .entry))) ⌝ }
+// Whether each number of a part is from `low` to `high`, or zero where zeros count.
+fn part_within(zeros: bool, low: f64, high: f64, part: &[f64]) -> bool
+    ensures { λ r. ⌜ (T r → PartWithin zeros low high (now (part .entry))) ⌝ }
 {
     let mut good = true;
     let mut k = 0;
     while k < part.len() {
         let x = part[k];
-        good = good
-            & ((x == 0.0) | ((-1.7976931348623157e308 <= x) & (x <= -2.2250738585072014e-308)));
+        good = good & (((x == 0.0) & zeros) | ((low <= x) & (x <= high)));
         k += 1;
     }
     good
+}
+
+// The same questions of numbers off the diagonal: each is zero, or from minus the largest number to -2^-1022.
+fn stretch_passes(part: &[f64]) -> bool
+    ensures { λ r. ⌜ (T r → StretchPasses (now (part .entry))) ⌝ }
+{
+    part_within(
+        true,
+        -1.7976931348623157e308,
+        -2.2250738585072014e-308,
+        part,
+    )
+}
+
+// And of weights: each is from 2^-1022 to the largest number.
+fn weights_pass(weights: &[f64]) -> bool
+    ensures { λ r. ⌜ (T r → WeightsPass (now (weights .entry))) ⌝ }
+{
+    part_within(
+        false,
+        2.2250738585072014e-308,
+        1.7976931348623157e308,
+        weights,
+    )
 }
 
 // All numbers off the diagonal: the n numbers before each of its places but the first.
@@ -55,8 +79,14 @@ fn sizes_pass(n: usize, sheet: &[f64]) -> bool
 // Whether questions 6, 7 and 8 pass, as far as the quick pass can tell. What a no means is left open; after a
 // yes they do pass.
 pub fn sheet_passes(reading: usize, n: usize, sheet: &[f64]) -> bool
-    requires { ⌜ Square n (now sheet) ⌝ }
+    requires { ⌜ WholeSheet reading n (now sheet) ⌝ }
     ensures { λ r. ⌜ (T r → placeQuestions reading n (now (sheet .entry)) ≡ pass) ⌝ }
 {
-    diagonal_passes(reading, n, sheet) && sizes_pass(n, sheet)
+    if !diagonal_passes(reading, n, sheet) {
+        return false;
+    }
+    if !sizes_pass(n, sheet) {
+        return false;
+    }
+    weights_pass(weights_of(n, sheet))
 }

@@ -1,4 +1,4 @@
--- What the steps of a reading promise of a working table (document 01, question 10 and the two sections of steps).
+-- What the steps of a reading promise of a working table (document 01, question 10 and the two sections of steps; document 02, U3 and U10).
 use mathlib.Core.Path.{_≡_}
 use Prim.Native.Nat.{ℕ, _<_}
 use mathlib.Core.Bool.{Bool}

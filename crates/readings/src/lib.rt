@@ -1,21 +1,21 @@
-// The steps of either reading on a sheet of at most 32 stages.
-ghost use mathlib.Core.Path.{_≡_};
-ghost use mathlib.Core.Bool.{true};
-ghost use Rattle.definitions.specs.Numbers.{all};
-ghost use Rattle.definitions.specs.Sheet.{takesPart};
+// The steps of each reading on a sheet of at most 32 stages.
+ghost use Rattle.definitions.specs.Sheet.{size};
 ghost use Rattle.tables.specs.RowMajor.{IsTable, ZeroTable};
-ghost use Rattle.shape.specs.Square.{Square};
+ghost use Rattle.shape.specs.Square.{Square, WholeSheet};
+ghost use Rattle.passes.specs.Weights.{weightsIn, Enough};
+ghost use Rattle.elimination.specs.Quotients.{QuotientTable};
+ghost use Rattle.loading.specs.LoadedTable.{withRates};
 ghost use Rattle.readings.specs.Stepped.{Stepped};
 
-// Reading 1 without idle stages: the sizes and leaving rates go through the elimination as they are.
-fn leaving_rates(n: usize, sheet: &[f64], x: &mut [f64; 1024]) -> bool
-    requires { ⌜ Square n (now sheet) × (all (takesPart 1 n (now sheet)) 0 n ≡ true) × ZeroTable (now x) ⌝ }
-    ensures { λ ok. ⌜ Stepped 1 n (now (sheet .entry)) ok (now (x .exit)) ⌝ }
+// Every stage: the sizes and leaving rates go through the elimination as they are, with the weights.
+fn every_stage(n: usize, sheet: &[f64], weights: &[f64], x: &mut [f64; 1024]) -> bool
+    requires { ⌜ Square n (now sheet) × Enough n (now weights) × ZeroTable (now x) ⌝ }
+    ensures { λ ok. let sheet = now (sheet .entry) in ⌜ QuotientTable (weightsIn (now (weights .entry))) n (withRates n sheet (size n sheet)) ok (now (x .exit)) ⌝ }
 {
     let mut t = [0.0; 1024];
     loading::sizes(n, sheet, &mut t);
     loading::rates(n, sheet, &mut t);
-    elimination::solve(n, &mut t, x)
+    elimination::solve(n, weights, &mut t, x)
 }
 
 // Reading 1 with idle stages: the others go through the elimination in compact order, and the zeros of x stay
@@ -28,7 +28,8 @@ fn live_stages(n: usize, sheet: &[f64], x: &mut [f64; 1024]) -> bool
     let mut s = [0.0; 1024];
     let mut y = [0.0; 1024];
     let r = live::pack(n, sheet, &mut stages, &mut s);
-    if !elimination::solve(r, &mut s, &mut y) {
+    let none = [0.0; 0];
+    if !elimination::solve(r, &none, &mut s, &mut y) {
         return false;
     }
     compact::unpack(r, &stages, &y, x);
@@ -47,17 +48,17 @@ fn margins_table(n: usize, sheet: &[f64], x: &mut [f64; 1024]) -> bool
     margins::solve_margins(n, &t, &d, x)
 }
 
-// The table of a sheet, in x; true if every step is in range. x holds zeros before; afterwards it is left
+// The table of a sheet, in x; true if every step is in range. Only reading 1 has idle stages. x holds zeros before; afterwards it is left
 // open outside n × n, and everywhere where a step is not in range.
 pub fn steps(reading: usize, n: usize, sheet: &[f64], x: &mut [f64; 1024]) -> bool
-    requires { ⌜ Square n (now sheet) × ZeroTable (now x) ⌝ }
+    requires { ⌜ WholeSheet reading n (now sheet) × ZeroTable (now x) ⌝ }
     ensures { λ ok. ⌜ Stepped reading n (now (sheet .entry)) ok (now (x .exit)) ⌝ }
 {
-    if reading != 1 {
+    if reading == 2 {
         return margins_table(n, sheet, x);
     }
-    if idle::some_idle(n, sheet) {
+    if (reading == 1) && idle::some_idle(n, sheet) {
         return live_stages(n, sheet, x);
     }
-    leaving_rates(n, sheet, x)
+    every_stage(n, sheet, shape::weights_of(n, sheet), x)
 }

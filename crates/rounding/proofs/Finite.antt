@@ -2,12 +2,12 @@
 use mathlib.Core.Path.{_≡_, refl, ap, _∙_}
 use Prim.Native.Nat.{ℕ, _-_, _*_, _<_}
 use native.Mathlib.Nat.{sub-self, le-refl, mul-pos}
-use mathlib.Core.Bool.{Bool, true, false, not, cond, Bool·beq}
+use mathlib.Core.Bool.{Bool, true, false, not, _||_, cond, Bool·beq}
 use lib.Dec.{T, eqb}
-use lib.Ieee.{Float, nan, inf, fin, Format, binary64, unlike, up, down, round, sum, add, sub, mul, div, eq}
-use lib.Ieee.Fits.{down-pos}
+use lib.Ieee.{Float, nan, inf, fin, Format, binary64, unlike, up, down, round, sum, add, sub, mul, div, eq, lt}
+use lib.Ieee.Fits.{down-pos, and-l}
 use borrow.Author.Tests.{le-ltb}
-use Rattle.definitions.specs.Numbers.{_⊕_, _⊖_, _⊗_, _⊘_, 0·0, finite, isZero}
+use Rattle.definitions.specs.Numbers.{_⊕_, _⊖_, _⊗_, _⊘_, 0·0, smallest, finite, isZero, divInRange}
 use Rattle.rounding.proofs.Round.{round-zero}
 
 -- A choice between a NaN and an infinity is finite in neither case.
@@ -43,6 +43,14 @@ quotient-finite (inf s) nan t = absurd t
 quotient-finite (inf s) (inf r) t = absurd t
 quotient-finite (inf s) (fin r n d) t = absurd t
 quotient-finite (fin s m e) y t = tt
+
+-- A division in range has a finite quotient, and so a finite dividend.
+pub quotient-of-range : (x y : Float) → T (divInRange x y) → T (finite (x ⊘ y))
+unfolding divInRange
+quotient-of-range x y t = and-l (finite (x ⊘ y)) (isZero x || isZero y || lt smallest (x ⊘ y)) t
+
+pub dividend-of-range : (x y : Float) → T (divInRange x y) → T (finite x)
+dividend-of-range x y t = quotient-finite x y (quotient-of-range x y t)
 
 -- A zero is finite.
 pub zero-finite : (x : Float) → T (isZero x) → T (finite x)

@@ -1,30 +1,11 @@
-// A stage's running sum and pivot, and the new sizes and leaving rates of the rows of two stages (the Schur
-// complement), on the table t of sizes and leaving rates.
+// The new sizes and leaving rates of the rows of two stages (the Schur complement), on the table t of sizes and leaving
+// rates.
+use pivots::Stage;
 use tables::row;
 ghost use Prim.Native.Nat.{suc, _≤_, _<_};
 ghost use Rattle.tables.specs.RowMajor.{IsTable, table, Holds};
 ghost use Rattle.tables.specs.Operators.{replace, span};
-ghost use Rattle.passes.specs.Stages.{IsStage, eliminatedRow, nextBegun, plusTwo, pairRow, pairRows};
-
-// A stage's running sum s and pivot p.
-pub struct Stage {
-    pub s: f64,
-    pub p: f64,
-}
-
-// Stage k's running sum and pivot: s_k, and the sizes from the last column back to the diagonal with s_k added last.
-pub fn begin(r: usize, k: usize, t: &[f64; 1024]) -> Stage
-    requires { ⌜ (k < r) × (r ≤ 32) × IsTable (now t) ⌝ }
-    ensures { λ stage. ⌜ IsStage r k (table (now (t .entry))) (stage .s) (stage .p) ⌝ }
-{
-    let mut p = 0.0;
-    for q in 0..r - (k + 1) {
-        let x = row::get(k, r - (q + 1), t);
-        p = p + x;
-    }
-    let s = row::get(k, k, t);
-    Stage { s, p: p + s }
-}
+ghost use Rattle.passes.specs.Stages.{eliminatedRow, nextBegun, plusTwo, pairRow, pairRows};
 
 // Row i at stage k, whose multiplier stands in column k. The loop over the row runs over the diagonal
 // too, so the new s_i is made before and stored after it.

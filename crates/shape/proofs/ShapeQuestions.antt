@@ -164,7 +164,7 @@ column-shape-passed reading n e held room stage q =
     (size-passed 1 n e held (then-first size last later), room-held n room (then-first (question4 n room) (question5 n stage stage) own), one-stage n stage (then-next (question4 n room) (question5 n stage stage) own))
 
 whole : {reading n : ℕ} {e : ℤ} {sheet : List Float} → Sized reading n e (length sheet) → WholeSheet reading n sheet
-whole s = record { few = s .few; held = s .numbers }
+whole s = record { least = s .least; few = s .few; held = s .numbers }
 
 module _ (reading n : ℕ) (e : ℤ) (sheet : List Float) where
   pub column-square : (room stage : ℕ) → columnShape reading n e (length sheet) room stage ≡ pass → WholeSheet 1 n sheet

@@ -1,9 +1,10 @@
 -- Places of a sheet.
 use mathlib.Core.List.{List}
-use mathlib.Core.Path.{_≡_}
 use Prim.Native.Nat.{ℕ, _+_, _*_, _/_, _%_, _≤_, _<_}
 use native.Mathlib.Nat.{mul-comm, mul-le-mul-right, div-add-mod', div-lt-iff-lt-mul, mod-lt}
 use native.Mathlib.Omega.{arith}
+use mathlib.Core.Bool.{Bool, true, false, cond}
+use lib.Dec.{eqb}
 use lib.ListN.{length, getD}
 use lib.Ieee.{Float, nan}
 use lib.Ieee.Positive.{first-pos}
@@ -30,6 +31,14 @@ module _ {reading n : ℕ} {sheet : List Float} (s : WholeSheet reading n sheet)
 
   pub is-square : Square n sheet
   is-square = record { few = s .few; held = rw (s .held) own-numbers }
+
+  pub numbers-few : length sheet ≤ 1056
+  unfolding sheetNumbers
+  numbers-few = rw (s .held) (go (eqb reading 3))
+    where
+      go : (weights : Bool) → cond weights (n * n + n) (n * n) ≤ 1056
+      go true = omega (arith, square-small (s .few), s .few)
+      go false = omega (arith, square-small (s .few))
 
   pub row-inside : {i j : ℕ} → i < sheetRows reading n → j < n → i * n + j < length sheet
   row-inside hi hj = rw (s .held, rows-of-numbers reading n) (inside hi hj)

@@ -4,6 +4,7 @@
 // no row and no column. And the number at a place of a sheet of that shape.
 ghost use Prim.Native.Nat.{_*_, _<_};
 ghost use mathlib.Core.Path.{_≡_};
+ghost use lib.ListN.{drop};
 ghost use Rattle.definitions.specs.Sheet.{sheetNumbers, place};
 ghost use Rattle.definitions.specs.Questions.{_then_, shapeQuestions, question4, question5};
 ghost use Rattle.definitions.specs.Saving.{saveQuestions};
@@ -132,4 +133,13 @@ pub fn number_at(n: usize, i: usize, j: usize, sheet: &[f64]) -> f64
     ensures { λ r. ⌜ r ≡ place n (now (sheet .entry)) i j ⌝ }
 {
     sheet[i * n + j]
+}
+
+// The weights: the numbers behind the n × n, none in readings 1 and 2.
+pub fn weights_of(n: usize, sheet: &[f64]) -> &[f64]
+    requires { ⌜ Square n (now sheet) ⌝ }
+    ensures { λ r. ⌜ now r ≡ drop (n * n) (now (sheet .entry)) ⌝ }
+{
+    let rates = n * n;
+    &sheet[rates..]
 }

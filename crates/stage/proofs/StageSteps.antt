@@ -10,14 +10,16 @@ use lib.Dec.{T}
 use lib.Ieee.{Float}
 use lib.Ieee.Fits.{and-l, and-r}
 use Rattle.definitions.specs.Numbers.{_⊘_, finite}
-use Rattle.definitions.specs.LeavingRates.{pivot}
+use Rattle.definitions.specs.LeavingRates.{Weights, pivot, pivotInRange, multiplier, p, m↓, rowInRange, stageInRange}
+use Rattle.steps.proofs.Weights.{weights-refl}
+use Rattle.steps.proofs.Pivot.{pivot-in-range-same, in-range-finite}
 use Rattle.tables.specs.RowMajor.{table, Holds}
 use Rattle.tables.specs.Operators.{put}
 use Rattle.tables.proofs.Loops.{Down, down-due, down-else, down-puts}
 use Rattle.passes.specs.Told.{Told}
 use Rattle.passes.specs.Multipliers.{systemIn}
 use Rattle.passes.specs.Stages.{IsStage, rowTest, multiplierRow, multipliedRows, nextBegun, pairRows, stageDone}
-use Rattle.passes.specs.StageTests.{RowFinite, RowTold, Alike, RowsTold, stageTested, StageFinite, StageBegins, StageFinds, PairFinds}
+use Rattle.passes.specs.StageTests.{RowFinite, RowTold, Alike, RowsTold, stageTest, StageFinite, StageBegins, StageFinds, PairFinds}
 use Rattle.passes.proofs.Told.{told-from, told-both, told-exactly}
 use Rattle.passes.proofs.PairStages.{next-stage, alike, pair-done, next-done}
 
@@ -32,65 +34,69 @@ module _ {k : ℕ} {f : ℕ → ℕ → Float} {xs : List Float} {i : ℕ} (p : 
       rw (down-else h k (λ m n. omega arith), ← a .row) at (t (g i) (a .column i (h .from) l ∙ sym (ap (λ (row : ℕ → Float). row k) (down-due h i (le-refl i)))))
 
 -- A stage up to its multipliers.
-pub stage-begins : (r k : ℕ) (f : ℕ → ℕ → Float) {s p : Float} {pivots rows : Bool} {xs : List Float}
-    → IsStage r k f s p
-    → pivots ≡ finite p
+pub stage-begins : (w : Weights) (r k : ℕ) (f : ℕ → ℕ → Float) {s p : Float} {pivots rows : Bool} {xs : List Float}
+    → IsStage w r k f s p
+    → pivots ≡ pivotInRange r (systemIn w f) k
     → RowsTold r k p f rows
     → Holds xs (multipliedRows k p r f)
-    → StageBegins r k f s p (pivots && rows) xs
-stage-begins r k f {s} {p} {pivots} {rows} e t told holds =
+    → StageBegins w r k f s p (pivots && rows) xs
+stage-begins w r k f {s} {p} {pivots} {rows} e t told holds =
     record {
       stage = e;
       told = λ g a. told-from (told-both (told-exactly t) (told g a)) (λ h. (h, h));
-      tested = λ u. rw (← t) (and-l pivots rows u);
+      tested = λ u. rw (e .pivots) (in-range-finite r (systemIn w f) k (rw t at (and-l pivots rows u)));
       holds = holds;
     }
 
 -- What its tests tell of it in any table that they cannot tell apart from its own.
-module _ {r k : ℕ} {f : ℕ → ℕ → Float} {s p : Float} {ok : Bool} {xs : List Float} (h : StageBegins r k f s p ok xs) where
-  stage-told : (g : ℕ → ℕ → Float) → p ≡ pivot r (systemIn g) k → Alike r k f g → Told ok (stageTested r k g) (StageFinite r k (pivot r (systemIn g) k) g)
-  unfolding stageTested
-  stage-told g e a = rw e at (h .told g a)
+module _ {w : Weights} {r k : ℕ} {f : ℕ → ℕ → Float} {s p : Float} {ok : Bool} {xs : List Float} (l : k < r) (h : StageBegins w r k f s p ok xs) where
+  pivot-told : (g : ℕ → ℕ → Float) → Alike r k f g → pivotInRange r (systemIn w f) k ≡ pivotInRange r (systemIn w g) k
+  pivot-told g a =
+      let place : (j : ℕ) → f k j ≡ g k j = λ j. ap (λ (row : ℕ → Float). row j) (sym (a .row)) in
+      pivot-in-range-same r k (systemIn w f) (systemIn w g) l (place k) (λ j b c. place j) (weights-refl r w)
 
-  own-told : Told ok (stageTested r k f) (StageFinite r k (pivot r (systemIn f) k) f)
+  stage-told : (g : ℕ → ℕ → Float) → p ≡ pivot r (systemIn w g) k → Alike r k f g → Told ok (stageTest w r k g) (StageFinite r k (pivot r (systemIn w g) k) g)
+  unfolding stageInRange rowInRange p m↓ multiplier rowTest
+  stage-told g e a = rw (pivot-told g a, e) at (h .told g a)
+
+  own-told : Told ok (stageTest w r k f) (StageFinite r k (pivot r (systemIn w f) k) f)
   own-told = stage-told f (h .stage .pivots) (record { row = refl; column = λ i a b. refl })
 
   stage-tested : {q : Float} → p ≡ q → T ok → T (finite q)
   stage-tested e t = rw e at (h .tested t)
 
 -- Stage k up to its multipliers, and what stage k + 1 needs of it.
-module _ (r k : ℕ) (f : ℕ → ℕ → Float) {s p : Float} {first : Bool} {xs ys : List Float} (a : StageBegins r k f s p first xs) (n : Holds ys (nextBegun r k s (table xs))) where
-  begun : table ys ≡ nextBegun r k (f k k) (multipliedRows k (pivot r (systemIn f) k) r f)
+module _ (w : Weights) (r k : ℕ) (f : ℕ → ℕ → Float) {s p : Float} {first : Bool} {xs ys : List Float} (l : suc k < r) (a : StageBegins w r k f s p first xs) (n : Holds ys (nextBegun r k s (table xs))) where
+  begun : table ys ≡ nextBegun r k (f k k) (multipliedRows k (pivot r (systemIn w f) k) r f)
   begun = n .is ∙ rw (a .holds .is, a .stage .sum, a .stage .pivots)
 
   -- Then stage k + 1 up to its multipliers, the later rows, the pivots.
   pub pair-eliminated : {s' p' : Float} {second : Bool} {zs us vs ws : List Float}
-      → suc k < r
-      → StageBegins r (k + 1) (table ys) s' p' second zs
+      → StageBegins w r (k + 1) (table ys) s' p' second zs
       → Holds us (pairRows r k s s' (table zs))
       → Holds vs (put k k p (table us))
       → Holds ws (put (k + 1) (k + 1) p' (table vs))
-      → PairFinds r k f (first && second) ws
-  pair-eliminated {s'} {p'} {second} {zs} l b h₁ h₂ h₃ =
-      let c : StageBegins r (suc k) (nextBegun r k (f k k) (multipliedRows k (pivot r (systemIn f) k) r f)) s' p' second zs = rw (add-one k, begun) at b in
-      let next = next-stage r k f l (c .stage) in
+      → PairFinds w r k f (first && second) ws
+  pair-eliminated {s'} {p'} {second} {zs} b h₁ h₂ h₃ =
+      let c : StageBegins w r (suc k) (nextBegun r k (f k k) (multipliedRows k (pivot r (systemIn w f) k) r f)) s' p' second zs = rw (add-one k, begun) at b in
+      let next = next-stage w r k f l (c .stage) in
       record {
-        told = told-both (own-told a) (stage-told c (stageDone r k f) (next .pivots) (alike r k f l));
-        tested = λ u. (stage-tested a (a .stage .pivots) (and-l first second u), stage-tested c (next .pivots) (and-r first second u));
+        told = told-both (own-told (omega arith) a) (stage-told l c (stageDone w r k f) (next .pivots) (alike w r k f l));
+        tested = λ u. (stage-tested (omega arith) a (a .stage .pivots) (and-l first second u), stage-tested l c (next .pivots) (and-r first second u));
         holds =
             record {
               long = h₃ .long;
-              is = h₃ .is ∙ rw (h₂ .is, h₁ .is, c .holds .is, a .stage .sum, a .stage .pivots, next .sum, next .pivots, add-one k) (pair-done r k f l);
+              is = h₃ .is ∙ rw (h₂ .is, h₁ .is, c .holds .is, a .stage .sum, a .stage .pivots, next .sum, next .pivots, add-one k) (pair-done w r k f l);
             };
       }
 
   -- Or, where no rows are left, the pivot, and the last stage.
-  pub pair-last : {second : Bool} {zs us : List Float} → suc (suc k) ≡ r → Holds zs (put k k p (table ys)) → StageFinds r (k + 1) (table zs) second us → PairFinds r k f (first && second) us
+  pub pair-last : {second : Bool} {zs us : List Float} → suc (suc k) ≡ r → Holds zs (put k k p (table ys)) → StageFinds w r (k + 1) (table zs) second us → PairFinds w r k f (first && second) us
   pair-last {second} {zs} {us} e h b =
-      let done : table zs ≡ stageDone r k f = h .is ∙ rw (begun, a .stage .pivots) (next-done r k f e) in
-      let c : StageFinds r (suc k) (stageDone r k f) second us = rw (add-one k, done) at b in
+      let done : table zs ≡ stageDone w r k f = h .is ∙ rw (begun, a .stage .pivots) (next-done w r k f e) in
+      let c : StageFinds w r (suc k) (stageDone w r k f) second us = rw (add-one k, done) at b in
       record {
-        told = told-both (own-told a) (c .told);
-        tested = λ u. (stage-tested a (a .stage .pivots) (and-l first second u), c .tested (and-r first second u));
+        told = told-both (own-told (omega arith) a) (c .told);
+        tested = λ u. (stage-tested (omega arith) a (a .stage .pivots) (and-l first second u), c .tested (and-r first second u));
         holds = c .holds;
       }

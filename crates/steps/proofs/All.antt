@@ -1,6 +1,6 @@
 -- The laws of `all`: what holds of all holds of each; tests that agree; tests gathered in another order.
 use mathlib.Core.Path.{_≡_, refl, sym, ap, ap₂, _∙_}
-use Prim.Native.Nat.{ℕ, zero, suc, _+_, _≤_, _<_}
+use Prim.Native.Nat.{ℕ, zero, suc, _+_, _-_, _≤_, _<_}
 use native.Mathlib.Nat.{zero-add}
 use native.Mathlib.Numerals.{add-one}
 use native.Mathlib.Omega.{arith}
@@ -53,6 +53,13 @@ exchange q lo n m =
     same-truth (all (λ i. all (q i) 0 m) lo n) (all (λ j. all (λ i. q i j) lo n) 0 m)
     (λ t. every (λ j. all (λ i. q i j) lo n) 0 m (λ j a b. every (λ i. q i j) lo n (λ i c d. each (q i) 0 m j (each (λ i. all (q i) 0 m) lo n i t c d) a b)))
     (λ t. every (λ i. all (q i) 0 m) lo n (λ i c d. every (q i) 0 m (λ j a b. each (λ i. q i j) lo n i (each (λ j. all (λ i. q i j) lo n) 0 m j t a b) c d)))
+
+-- From the last number below r back to k + 1.
+pub all-falling : (p : ℕ → Bool) (r k : ℕ) → all (λ q. p (r - suc q)) 0 (r - suc k) ≡ all p (suc k) (r - suc k)
+all-falling p r k =
+    same-truth (all (λ q. p (r - suc q)) 0 (r - suc k)) (all p (suc k) (r - suc k))
+    (λ t. every p (suc k) (r - suc k) (λ j a b. let back : r - suc (r - suc j) ≡ j = omega arith in rw back at (each (λ q. p (r - suc q)) 0 (r - suc k) (r - suc j) t (omega arith) (omega arith))))
+    (λ t. every (λ q. p (r - suc q)) 0 (r - suc k) (λ q a b. each p (suc k) (r - suc k) (r - suc q) t (omega arith) (omega arith)))
 
 -- Two tests at each number.
 pub all-both : (p q : ℕ → Bool) (lo n : ℕ) → (all p lo n && all q lo n) ≡ all (λ i. p i && q i) lo n

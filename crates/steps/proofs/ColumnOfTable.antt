@@ -2,17 +2,17 @@
 use mathlib.Core.Path.{_≡_, refl, sym, _∙_}
 use Prim.Native.Nat.{ℕ, _*_, _-_, _≤_, _<_}
 use native.Mathlib.Omega.{arith}
-use mathlib.Core.Bool.{_&&_, _||_}
+use mathlib.Core.Bool.{_&&_}
 use mathlib.Core.List.{List}
 use lib.Dec.{T}
 use lib.IntN.{ℤ}
 use lib.ListN.{length, getD, drop}
-use lib.Ieee.{Float, nan, lt}
+use lib.Ieee.{Float, nan}
 use lib.Ieee.Bits.{is-true}
 use lib.Ieee.Fits.{and-i, and-l, and-r}
 use borrow.Author.Tests.{le-leb}
 use Rattle.exact.proofs.Cases.{by-bool}
-use Rattle.definitions.specs.Numbers.{_⊘_, smallest, finite, isZero, divInRange, all}
+use Rattle.definitions.specs.Numbers.{divInRange, all}
 use Rattle.definitions.specs.LeavingRates.{System, downward, p, solved, shared, columnBefore, columnUpward, column, inRange}
 use Rattle.definitions.specs.Compact.{rank}
 use Rattle.definitions.specs.Sheet.{place, takesPart}
@@ -22,6 +22,7 @@ use Rattle.definitions.specs.Questions.{pass, _then_, knownReading, question1, 
 use Rattle.definitions.specs.Services.{table, tableArea}
 use Rattle.definitions.specs.Column.{columnReading, columnShape, columnInput, columnOf, columnInRange, columnQuestions, stageColumn, columnArea}
 use Rattle.steps.specs.ColumnOfTable.{ColumnOfTable}
+use Rattle.rounding.proofs.Finite.{quotient-of-range}
 use Rattle.rounding.proofs.AnyNumbers.{zero-over-finite}
 use Rattle.steps.proofs.All.{each-below}
 use Rattle.steps.proofs.CompactOrder.{rank-below}
@@ -49,12 +50,11 @@ module _ (n : ℕ) (e : ℤ) (sheet : List Float) (room : ℕ) (accepted : table
 
     -- Zeros go through where some column does.
     no-column : T (column r at r)
-    unfolding inRange column divInRange
+    unfolding inRange column
     no-column =
         zero-column r at (and-l (shared r at) (all (column r at) 0 r) t) (λ i l.
         let last = each-below r (λ k. divInRange (solved r at i k) (p r at k)) (and-r (columnBefore r at i r && columnUpward r at i r) (all (λ k. divInRange (solved r at i k) (p r at k)) 0 r) (its-column i l)) i l in
-        let q = solved r at i i ⊘ p r at i in
-        zero-over-finite (solved r at i i) (p r at i) (and-l (finite q) (isZero (solved r at i i) || isZero (p r at i) || lt smallest q) last))
+        zero-over-finite (solved r at i i) (p r at i) (quotient-of-range (solved r at i i) (p r at i) last))
 
   in-range : (j : ℕ) → j < n → T (columnInRange n sheet j)
   unfolding columnInRange liveBegun inRange

@@ -8,9 +8,9 @@ use lib.Dec.{T}
 use lib.Ieee.{Float}
 use lib.Ieee.Fits.{and-i, and-l, and-r}
 use Rattle.exact.proofs.Bools.{same-truth}
-use Rattle.definitions.specs.Numbers.{_⊕_, 0·0, finite, addInRange, mulInRange, divInRange, sumInRange, all}
-use Rattle.definitions.specs.LeavingRates.{Weights, none, some, System, weighed, falling, laterSizes, overWeight, pivot, productsInRange, overWeightInRange, pivotInRange}
-use Rattle.rounding.proofs.Finite.{sum-finite}
+use Rattle.definitions.specs.Numbers.{_⊕_, 0·0, finite, addInRange, divInRange, sumInRange}
+use Rattle.definitions.specs.LeavingRates.{none, some, System, weighed, falling, laterSizes, pivot, productsInRange, overWeightInRange, pivotInRange}
+use Rattle.rounding.proofs.Finite.{sum-finite, dividend-of-range}
 use Rattle.rounding.proofs.RoundedSums.{total-in-range, term-finite}
 use Rattle.steps.proofs.FloatSums.{sum-same, sum-in-range-same}
 use Rattle.steps.proofs.Weights.{SameWeights, weighed-same, products-same, over-same, over-test-same, weighed-finite, over-finite, over-in-range}
@@ -100,3 +100,14 @@ finite-in-range r a k e t = asked r a k (rw e tt) (total-of-pivot r a k t) (rw e
 
 pub plain-test : (r : ℕ) (a : System) (k : ℕ) → a .z ≡ none → finite (pivot r a k) ≡ pivotInRange r a k
 plain-test r a k e = same-truth (finite (pivot r a k)) (pivotInRange r a k) (finite-in-range r a k e) (in-range-finite r a k)
+
+-- With weights the products and the division are: a quotient in range shows that its sum is finite.
+pub weighted-test : (r : ℕ) (a : System) (k : ℕ) (z : ℕ → Float) → a .z ≡ some z
+    → (productsInRange (a .z) (a .t k) (suc k) (r - suc k) && divInRange (laterSizes r a k ⊕ a .s k) (z k)) ≡ pivotInRange r a k
+weighted-test r a k z e =
+    let tested : overWeightInRange (a .z) k (total r a k) ≡ divInRange (total r a k) (z k) = rw e in
+    same-truth (products r a k && divInRange (total r a k) (z k)) (pivotInRange r a k)
+    (λ t.
+    let d = and-r (products r a k) (divInRange (total r a k) (z k)) t in
+    asked r a k (and-l (products r a k) (divInRange (total r a k) (z k)) t) (dividend-of-range (total r a k) (z k) d) (rw tested d))
+    (λ t. let parts = parts-of-range r a k t in and-i (products r a k) (divInRange (total r a k) (z k)) (parts .0) (rw tested at (parts .3)))

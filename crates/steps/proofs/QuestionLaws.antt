@@ -96,6 +96,14 @@ stage-rows reading n = go (eqb reading 3)
     go true = omega arith
     go false = omega arith
 
+pub rows-few : (reading n : ℕ) → sheetRows reading n ≤ suc n
+unfolding sheetRows
+rows-few reading n = go (eqb reading 3)
+  where
+    go : (weights : Bool) → cond weights (suc n) n ≤ suc n
+    go true = omega arith
+    go false = omega arith
+
 -- Question 5, of one stage.
 pub is-stage : (k n : ℕ) → T (leb 1 k && leb k n) → (1 ≤ k) × (k ≤ n)
 is-stage k n t = (leb→le 1 k (and-l (leb 1 k) (leb k n) t), leb→le k n (and-r (leb 1 k) (leb k n) t))

@@ -14,20 +14,21 @@ one-less n j h = omega arith
 none-left : (n j : ℕ) → n ≤ j → n - j ≡ 0
 none-left n j h = omega arith
 
-module _ (good : ℕ → ℕ → Bool) (number n : ℕ) where
+-- m rows of n places.
+module _ (good : ℕ → ℕ → Bool) (number m n : ℕ) where
   -- The rows from i on, and the places of row i from column j on with the rows after it.
   abbrev pub fromRow : ℕ → Asked
-  fromRow i = askRows good number n i (n - i)
+  fromRow i = askRows good number n i (m - i)
 
   abbrev pub fromPlace : ℕ → ℕ → Asked
   fromPlace i j = askRow good number i j (n - j) then fromRow (i + 1)
 
-  pub all-rows : askRows good number n 0 n ≡ fromRow 0
-  all-rows = rw (sub-zero n)
+  pub all-rows : askRows good number n 0 m ≡ fromRow 0
+  all-rows = rw (sub-zero m)
 
-  pub enter-row : (i : ℕ) → i < n → fromRow i ≡ fromPlace i 0
+  pub enter-row : (i : ℕ) → i < m → fromRow i ≡ fromPlace i 0
   unfolding askRows
-  enter-row i h = rw (one-less n i h, sub-zero n, add-one i)
+  enter-row i h = rw (one-less m i h, sub-zero n, add-one i)
 
   place-step : (i j : ℕ) → j < n → fromPlace i j ≡ ((ask (good i j) number (i + 1) (j + 1) then askRow good number i (j + 1) (n - (j + 1))) then fromRow (i + 1))
   unfolding askRow
@@ -43,9 +44,9 @@ module _ (good : ℕ → ℕ → Bool) (number n : ℕ) where
   unfolding askRow
   leave-row i j h = rw (none-left n j h)
 
-  pub no-row : (i : ℕ) → n ≤ i → fromRow i ≡ pass
+  pub no-row : (i : ℕ) → m ≤ i → fromRow i ≡ pass
   unfolding askRows
-  no-row i h = rw (none-left n i h)
+  no-row i h = rw (none-left m i h)
 
 module _ (good : ℕ → Bool) (number n : ℕ) where
   -- The stages from i on.

@@ -1,14 +1,12 @@
 -- What a pivot does with weights (document 02, U10), or without: laws of its products, of the division by a weight, and of their tests.
 use mathlib.Core.Path.{_≡_, refl, ap₂, _∙_}
-use Prim.Native.Nat.{ℕ, suc, _+_, _-_, _≤_, _<_}
+use Prim.Native.Nat.{ℕ, suc, _-_, _<_}
 use native.Mathlib.Omega.{arith}
 use lib.Dec.{T}
-use lib.Ieee.{Float, lt}
-use lib.Ieee.Fits.{and-l}
-use mathlib.Core.Bool.{_||_}
-use Rattle.definitions.specs.Numbers.{_⊗_, _⊘_, finite, isZero, smallest, mulInRange, divInRange}
+use lib.Ieee.{Float}
+use Rattle.definitions.specs.Numbers.{_⊗_, _⊘_, finite, mulInRange, divInRange}
 use Rattle.definitions.specs.LeavingRates.{Weights, none, some, weighed, overWeight, productsInRange, overWeightInRange}
-use Rattle.rounding.proofs.Finite.{product-finite, quotient-finite}
+use Rattle.rounding.proofs.Finite.{product-finite, quotient-finite, quotient-of-range}
 use Rattle.steps.proofs.All.{all-same}
 
 -- Weights that agree at the stages before r.
@@ -69,6 +67,5 @@ over-finite (some z) k x t = quotient-finite x (z k) t
 
 -- A sum that is finite stays so where its division is in range.
 pub over-in-range : (w : Weights) (k : ℕ) (x : Float) → T (finite x) → T (overWeightInRange w k x) → T (finite (overWeight w k x))
-unfolding divInRange
 over-in-range none k x t u = t
-over-in-range (some z) k x t u = and-l (finite (x ⊘ z k)) (isZero x || isZero (z k) || lt smallest (x ⊘ z k)) u
+over-in-range (some z) k x t u = quotient-of-range x (z k) u

@@ -3,13 +3,14 @@ use mathlib.Core.Path.{_≡_, _∙_}
 use Prim.Native.Nat.{ℕ, zero, suc, _+_, _-_, _<_}
 use native.Mathlib.Nat.{sub-self}
 use native.Mathlib.Omega.{arith}
-use mathlib.Core.Bool.{true, _&&_, _||_}
+use mathlib.Core.Bool.{true, _&&_}
 use lib.Dec.{T}
-use lib.Ieee.{lt, eq}
-use lib.Ieee.Fits.{and-i, and-l, and-r}
+use lib.Ieee.{eq}
+use lib.Ieee.Fits.{and-i, and-r}
 use borrow.Author.Tests.{ne-eqb}
-use Rattle.definitions.specs.Numbers.{_⊘_, 0·0, smallest, finite, isZero, divInRange, addProductInRange, all}
+use Rattle.definitions.specs.Numbers.{_⊘_, 0·0, finite, isZero, divInRange, addProductInRange, all}
 use Rattle.definitions.specs.LeavingRates.{System, p, u, m↑, b↑, solved, sharedBefore, shared, columnBefore, columnUpward, column}
+use Rattle.rounding.proofs.Finite.{quotient-of-range}
 use Rattle.rounding.proofs.AnyNumbers.{zero-other, zero-step}
 use Rattle.rounding.proofs.Laws.{zero-is-good}
 use Rattle.steps.proofs.All.{each-below, every-below}
@@ -17,10 +18,9 @@ use Rattle.steps.proofs.LeavingRatesSteps.{column-waits, upward-start, 
 
 module _ (r : ℕ) (at : ℕ → System) (t : T (shared r at)) where
   multiplier-finite : (k i : ℕ) → i < k → k < r → T (finite (m↑ r at k i))
-  unfolding shared m↑ divInRange
+  unfolding shared m↑
   multiplier-finite k i l m =
-      let q = m↑ r at k i in
-      and-l (finite q) (isZero (u r at i k) || isZero (p r at k) || lt smallest q)
+      quotient-of-range (u r at i k) (p r at k)
       (each-below k (λ i. divInRange (u r at i k) (p r at k)) (each-below r (λ k. all (λ i. divInRange (u r at i k) (p r at k)) 0 k) (and-r (sharedBefore r at r) (all (λ k. all (λ i. divInRange (u r at i k) (p r at k)) 0 k) 0 r) t) k m) i l)
 
   zero-upward : (q i : ℕ) → i + q < r → b↑ r at r q i ≡ 0·0

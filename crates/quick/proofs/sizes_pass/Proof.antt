@@ -20,7 +20,7 @@ abbrev μ-loop : tie.MeasureT-loop
 inside : (c : tie.In-loop Inv-loop μ-loop) →
     let i = c .before .loop .i in
     let a = c .before .before .before .args in
-    (a.n ≤ i * a.n + i) × (i * a.n + i ≤ length (now a.sheet)) × (length (now a.sheet) ≤ 1024)
+    (a.n ≤ i * a.n + i) × (i * a.n + i ≤ length (now a.sheet)) × (i * a.n + i < 1024)
 inside c = stretch-inside (c .before .before .before .pre) (c .before .loop .inv .0) (c .loop-test .taken)
 
 loop-again : tie.Need-loop-again Inv-loop μ-loop

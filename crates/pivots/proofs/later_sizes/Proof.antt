@@ -1,22 +1,22 @@
--- `schur::begin` meets its contract: at turn q the last q sizes are added. Assumes nothing.
+-- `pivots::later_sizes` meets its contract: at turn q the last q sizes are added. Assumes nothing.
 use Prim.Native.Nat.{suc, _+_, _-_, _≤_}
-use mathlib.Core.Path.{_≡_, refl, ap, ap₂, _∙_}
+use mathlib.Core.Path.{_≡_, refl, ap, _∙_}
 use native.Mathlib.Nat.{sub-zero}
 use native.Mathlib.Omega.{arith}
 use lib.Ieee.{ofBits}
 use borrow.Author.Needs.{needs}
-use Rattle.definitions.specs.Numbers.{_⊕_, 0·0}
-use Rattle.definitions.specs.LeavingRates.{falling, pivot}
+use Rattle.definitions.specs.Numbers.{0·0}
+use Rattle.definitions.specs.LeavingRates.{falling}
 use Rattle.tables.specs.RowMajor.{table}
 use Rattle.steps.proofs.Gathering.{Summed, summed-begins, summed-turns, summed-ends}
-use Rattle.schur.proofs.begin.Statement.{statement}
-use Rattle.schur.proofs.begin.Tie as tie
+use Rattle.pivots.proofs.later_sizes.Statement.{statement}
+use Rattle.pivots.proofs.later_sizes.Tie as tie
 
 abbrev Inv-loop : tie.InvT-loop
-Inv-loop r k t p₀ q₀ end p q = (end ≡ r - suc k) × (q ≤ end) × Summed 0·0 (falling r (table t k)) 0 q p
+Inv-loop r k t sum₀ q₀ end sum q = (end ≡ r - suc k) × (q ≤ end) × Summed 0·0 (falling r (table t k)) 0 q sum
 
 abbrev μ-loop : tie.MeasureT-loop
-μ-loop r k t p₀ q₀ end p q = end - q
+μ-loop r k t sum₀ q₀ end sum q = end - q
 
 loop-holds : tie.Need-loop-holds Inv-loop μ-loop
 unfolding ofBits
@@ -30,18 +30,14 @@ loop-again c =
     (turn .inv .0, omega arith, summed-turns (turn .inv .2) (c .get .ensures ∙ ap (table (s .t .now) (s .k)) place))
 
 returns : tie.Need-returns Inv-loop μ-loop
-unfolding pivot
 returns c =
-    let left = c .before .before in
+    let left = c .before in
     let s = left .before .args in
     let hi = s .r - suc (s .k) in
-    record {
-      sum = c .get2 .ensures;
-      pivots = ap₂ (λ x y. x ⊕ y) (rw (sub-zero hi) at (summed-ends (left .loop .inv .2) {hi = hi} (omega arith) (omega arith))) (c .get2 .ensures);
-    }
+    rw (sub-zero hi) at (summed-ends (left .loop .inv .2) {hi = hi} (omega arith) (omega arith))
 
-pub begin-spec : {M : Type 1} → statement M
-begin-spec =
+pub later-sizes-spec : {M : Type 1} → statement M
+later-sizes-spec =
     tie.close
     (tie.spec
     Inv-loop
@@ -55,5 +51,4 @@ begin-spec =
     (λ c. search needs)
     (λ c. search needs)
     loop-again
-    (λ c κs. search needs)
     returns)
