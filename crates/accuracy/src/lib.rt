@@ -1,1 +1,1 @@
-// The accuracy rule, demand 3, for both readings. No functions.
+// The accuracy rule, demand 3, for every reading. No functions.

@@ -1,5 +1,5 @@
 -- From a loaded sheet to its column, and the service's promise for each way that a call can end.
-use mathlib.Core.Path.{_≡_, sym, ap, ap₂, _∙_}
+use mathlib.Core.Path.{_≡_, refl, sym, ap, ap₂, _∙_}
 use Prim.Native.Nat.{ℕ, _-_, _<_}
 use mathlib.Core.Bool.{Bool, true, false, _&&_, and-false}
 use mathlib.Core.List.{List, _++_}
@@ -9,9 +9,9 @@ use lib.Ieee.{Float, nan}
 use Rattle.exact.proofs.Bools.{holds, contrary}
 use Rattle.exact.proofs.Cases.{by-bool}
 use Rattle.definitions.specs.Numbers.{0·0, all}
-use Rattle.definitions.specs.LeavingRates.{downward, shared, column}
+use Rattle.definitions.specs.LeavingRates.{none, downward, shared, column}
 use Rattle.definitions.specs.Tables.{list}
-use Rattle.definitions.specs.Sheet.{size, system, takesPart, allowance}
+use Rattle.definitions.specs.Sheet.{size, weights, system, takesPart, allowance}
 use Rattle.definitions.specs.Table.{liveSystem, liveBegun, entry}
 use Rattle.definitions.specs.Questions.{pass, refuse}
 use Rattle.definitions.specs.Accuracy.{Binary64}
@@ -42,13 +42,14 @@ use Rattle.column_planner.specs.Promises.{ColumnStepped, ColumnDone}
 pub column-stepped : (n j : ℕ) (sheet : List Float) {f : ℕ → ℕ → Float} {sizes t xs : List Float} {ok : Bool}
     → all (takesPart 1 n sheet) 0 n ≡ true → j < n → f ≡ (λ _ _. 0·0)
     → Holds sizes (withSizes n sheet f) → Holds t (withRates n sheet (table sizes)) → ColumnSolved n j (table t) ok xs → ColumnStepped n sheet j ok xs
+unfolding weights
 column-stepped n j sheet e below zeros loaded rated s =
     let q = rw (rates-are n sheet zeros loaded rated) at s in
-    let same = loaded-system n sheet in
-    let held = systemIn (withRates n sheet (size n sheet)) in
+    let same = loaded-system n sheet 1 none tt in
+    let held = systemIn none (withRates n sheet (size n sheet)) in
     record {
-      range = q .range ∙ same-column-range n held (system n sheet) same j ∙ sym (every-column n sheet e j below);
-      entries = λ u i l. q .quotients u i l ∙ same-quotient n held (system n sheet) same i j l ∙ sym (every-entry n sheet e i j l below);
+      range = q .range ∙ same-column-range n held (system 1 n sheet) same j ∙ sym (every-column n sheet e j below);
+      entries = λ u i l. q .quotients u i l ∙ same-quotient n held (system 1 n sheet) same i j l ∙ sym (every-entry 1 n sheet e refl i j l below);
       long = q .long;
     }
 
@@ -68,14 +69,14 @@ module _ {n j : ℕ} {sheet : List Float} {r : ℕ} {stages : List ℕ} {s : Lis
   unfolding columnInRange liveBegun
   live-range =
       solved .range
-      ∙ same-column-range r (systemIn (table s)) (liveSystem n sheet) (live-same packed) q
-      ∙ ap₂ (λ r q. shared r (downward r (liveSystem n sheet)) && column r (downward r (liveSystem n sheet)) q) (live-counted packed) its-column
+      ∙ same-column-range r (systemIn none (table s)) (liveSystem 1 n sheet) (live-same packed) q
+      ∙ ap₂ (λ r q. shared r (downward r (liveSystem 1 n sheet)) && column r (downward r (liveSystem 1 n sheet)) q) (live-counted packed) its-column
 
   pub live-fails : ok ≡ false → {xs : List Float} → IsVector xs → ColumnStepped n sheet j false xs
   live-fails e l = record { range = sym e ∙ live-range; entries = λ z. absurd z; long = l }
 
   idle-entry : (i : ℕ) → (on i && on j) ≡ false → 0·0 ≡ entry 1 n sheet i j
-  idle-entry i e = sym (entry-idle n sheet i j e)
+  idle-entry i e = sym (entry-idle 1 n sheet refl i j e)
 
   module _ (held : ok ≡ true) where
     -- An idle stage: zeros.

@@ -1,1 +1,1 @@
-// The exact side of both readings: the inverse over fractions reduced to systems over whole numbers. No functions.
+// The exact side of every reading: the inverse over fractions reduced to systems over whole numbers. No functions.

@@ -6,7 +6,7 @@ ghost use Rattle.definitions.specs.Questions.{_then_, pass};
 ghost use Rattle.definitions.specs.Prices.{question19, priceInput};
 ghost use Rattle.answers.specs.Outcome.{ComesTo};
 ghost use Rattle.tables.specs.Vectors.{IsVector};
-ghost use Rattle.shape.specs.Square.{Square};
+ghost use Rattle.shape.specs.Square.{WholeSheet};
 ghost use Rattle.price_planner.specs.Promises.{PriceStepped, PricesDone};
 use answers::Asked;
 use answers::Filled;
@@ -25,7 +25,7 @@ fn ask(reading: usize, n: usize, e: i64, sheet: &[f64], prices: &[f64], room: us
 // The prices of all stages, in p, from the table, which stands in an array of this function's own; true if every step
 // of both is in range. Where one is not, p is left open.
 fn steps(reading: usize, n: usize, sheet: &[f64], prices: &[f64], p: &mut [f64; 32]) -> bool
-    requires { ⌜ Square n (now sheet) × (length (now prices) ≡ n) × IsVector (now p) ⌝ }
+    requires { ⌜ WholeSheet reading n (now sheet) × (length (now prices) ≡ n) × IsVector (now p) ⌝ }
     ensures { λ ok. ⌜ PriceStepped reading n (now (sheet .entry)) (now (prices .entry)) ok (now (p .exit)) ⌝ }
 {
     let mut x = [0.0; 1024];

@@ -6,14 +6,14 @@ ghost use Rattle.definitions.specs.Column.{columnInput};
 ghost use Rattle.definitions.specs.Moving.{moveInput};
 ghost use Rattle.definitions.specs.Prices.{priceInput};
 ghost use Rattle.answers.specs.Outcome.{ComesTo};
-ghost use Rattle.shape.specs.Square.{Square};
+ghost use Rattle.shape.specs.Square.{WholeSheet};
 use answers::Asked;
 use places::ask_places;
 
 // Questions 6, 7 and 8. The quick pass tells that all numbers are good; where it does not, the searches
 // find the first bad place.
 fn ask_all_places(reading: usize, n: usize, sheet: &[f64]) -> Asked
-    requires { ⌜ Square n (now sheet) ⌝ }
+    requires { ⌜ WholeSheet reading n (now sheet) ⌝ }
     ensures { λ r. ⌜ ComesTo (placeQuestions reading n (now (sheet .entry))) (r .number) (r .row) (r .column) ⌝ }
 {
     if quick::sheet_passes(reading, n, sheet) {
@@ -37,7 +37,7 @@ fn ask_all_places(reading: usize, n: usize, sheet: &[f64]) -> Asked
 // Questions 6 to 9, or 6 to 8 alone for a call that 9 does not concern. One function for both, so that the
 // compiler puts the places' questions into it.
 fn ask_numbers(nine: bool, reading: usize, n: usize, sheet: &[f64]) -> Asked
-    requires { ⌜ Square n (now sheet) ⌝ }
+    requires { ⌜ WholeSheet reading n (now sheet) ⌝ }
     ensures { λ r. ⌜ ComesTo (cond nine (numberQuestions reading n (now (sheet .entry))) (placeQuestions reading n (now (sheet .entry)))) (r .number) (r .row) (r .column) ⌝ }
 {
     let places = ask_all_places(reading, n, sheet);
@@ -128,7 +128,7 @@ pub fn price_input(
 pub fn move_input(reading: usize, n: usize, e: i64, sheet: &[f64], area: usize) -> Asked
     ensures { λ r. ⌜ ComesTo (moveInput reading n e (now (sheet .entry)) area) (r .number) (r .row) (r .column) ⌝ }
 {
-    let shape = shape::ask_table(reading, n, e, sheet.len(), area);
+    let shape = shape::ask_move(reading, n, e, sheet.len(), area);
     if shape != 0 {
         return Asked {
             number: shape,

@@ -7,6 +7,7 @@ use Prim.Native.Nat.{_≤_}
 use Rattle.rounding.proofs.Words.{zero-word}
 use Rattle.tables.proofs.Vectors.{new-vector}
 use Rattle.shape.specs.Square.{Square}
+use Rattle.shape.proofs.Square.{is-square}
 use Rattle.shape.proofs.ShapeQuestions.{column-input-passed}
 use Rattle.definitions.specs.Accuracy.{Binary64}
 use Rattle.column_planner.proofs.Endings.{column-given, column-out-of-range}
@@ -15,7 +16,9 @@ use Rattle.column_planner.proofs.column_of_sheet.Tie as tie
 
 -- What questions 1 to 9 leave.
 input : (s : tie.Start) → Square s.args.n (now s.args.sheet) × (s.args.n ≤ length (now s.args.answer)) × ((1 ≤ s.args.stage) × (s.args.stage ≤ s.args.n))
-input s = column-input-passed s.args.reading s.args.n s.args.e (now s.args.sheet) (length (now s.args.answer)) s.args.stage s.pre
+input s =
+    let p = column-input-passed s.args.reading s.args.n s.args.e (now s.args.sheet) (length (now s.args.answer)) s.args.stage s.pre in
+    (is-square (p .0), p .1, p .2)
 
 sub-steps : tie.Need-sub-steps
 sub-steps c = let p = input (c .before .before) in omega (arith, p .2 .0)

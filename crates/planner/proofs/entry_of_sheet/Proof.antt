@@ -4,7 +4,7 @@ use denote.Ref.{now}
 use Prim.Native.Nat.{_≤_}
 use Rattle.rounding.proofs.Words.{zero-word}
 use Rattle.tables.proofs.Vectors.{new-table}
-use Rattle.shape.specs.Square.{Square}
+use Rattle.shape.specs.Square.{WholeSheet}
 use Rattle.shape.proofs.ShapeQuestions.{entry-input-passed}
 use Rattle.definitions.specs.Accuracy.{Binary64}
 use Rattle.planner.proofs.Endings.{entry-given, entry-out-of-range}
@@ -12,7 +12,7 @@ use Rattle.planner.proofs.entry_of_sheet.Statement.{statement}
 use Rattle.planner.proofs.entry_of_sheet.Tie as tie
 
 -- What questions 1 to 9 leave.
-stages : (s : tie.Start) → Square s.args.n (now s.args.sheet) × ((1 ≤ s.args.i) × (s.args.i ≤ s.args.n)) × ((1 ≤ s.args.j) × (s.args.j ≤ s.args.n))
+stages : (s : tie.Start) → WholeSheet s.args.reading s.args.n (now s.args.sheet) × ((1 ≤ s.args.i) × (s.args.i ≤ s.args.n)) × ((1 ≤ s.args.j) × (s.args.j ≤ s.args.n))
 stages s = entry-input-passed s.args.reading s.args.n s.args.e (now s.args.sheet) s.args.i s.args.j s.pre
 
 sub-get : tie.Need-sub-get

@@ -6,7 +6,7 @@ use lib.ListN.{length}
 use Prim.Native.Nat.{_*_, _≤_}
 use Rattle.rounding.proofs.Words.{zero-word}
 use Rattle.tables.proofs.Vectors.{new-table}
-use Rattle.shape.specs.Square.{Square}
+use Rattle.shape.specs.Square.{WholeSheet}
 use Rattle.shape.proofs.ShapeQuestions.{table-input-passed}
 use Rattle.definitions.specs.Accuracy.{Binary64}
 use Rattle.planner.proofs.Endings.{table-given, table-out-of-range}
@@ -14,7 +14,7 @@ use Rattle.planner.proofs.table_of_sheet.Statement.{statement}
 use Rattle.planner.proofs.table_of_sheet.Tie as tie
 
 -- What questions 1 to 9 leave.
-input : (s : tie.Start) → Square s.args.n (now s.args.sheet) × (s.args.n * s.args.n ≤ length (now s.args.answer))
+input : (s : tie.Start) → WholeSheet s.args.reading s.args.n (now s.args.sheet) × (s.args.n * s.args.n ≤ length (now s.args.answer))
 input s = table-input-passed s.args.reading s.args.n s.args.e (now s.args.sheet) (length (now s.args.answer)) s.pre
 
 write-requires : tie.Need-write-requires

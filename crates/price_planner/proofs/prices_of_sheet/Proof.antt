@@ -5,7 +5,7 @@ use borrow.Author.Needs.{needs}
 use denote.Ref.{now}
 use lib.ListN.{length}
 use Prim.Native.Nat.{_≤_}
-use Rattle.shape.specs.Square.{Square}
+use Rattle.shape.specs.Square.{WholeSheet}
 use Rattle.shape.proofs.ShapeQuestions.{price-input-passed}
 use Rattle.steps.proofs.QuestionLaws.{then-first}
 use Rattle.definitions.specs.Prices.{question19, priceInput}
@@ -15,7 +15,7 @@ use Rattle.price_planner.proofs.prices_of_sheet.Statement.{statement}
 use Rattle.price_planner.proofs.prices_of_sheet.Tie as tie
 
 -- What the questions before 19 leave.
-input : (s : tie.Start) → Square s.args.n (now s.args.sheet) × (s.args.n ≤ length (now s.args.answer)) × (length (now s.args.prices) ≡ s.args.n)
+input : (s : tie.Start) → WholeSheet s.args.reading s.args.n (now s.args.sheet) × (s.args.n ≤ length (now s.args.answer)) × (length (now s.args.prices) ≡ s.args.n)
 input s =
     let given = now s.args.prices in
     let room = length (now s.args.answer) in

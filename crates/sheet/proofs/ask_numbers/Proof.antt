@@ -3,6 +3,7 @@ use borrow.Author.Needs.{needs}
 use borrow.Author.Tests.{not-true, not-false}
 use Rattle.definitions.specs.Questions.{numberQuestions}
 use Rattle.answers.proofs.Outcome.{ends, goes-on}
+use Rattle.shape.proofs.Square.{is-square}
 use Rattle.sheet.proofs.ask_numbers.Statement.{statement}
 use Rattle.sheet.proofs.ask_numbers.Tie as tie
 
@@ -24,4 +25,4 @@ returns-3 c =
     rw (not-false (asked .before .before .args .nine) (c .before .before .before .if1 .left)) (goes-on (asked .ask-all-places .ensures) (c .before .if2 .left) (c .ask-trapped .ensures))
 
 pub ask-numbers-spec : {M : Type 1} → statement M
-ask-numbers-spec = tie.close (tie.spec (λ c κs. search needs) returns returns-2 (λ c κs. search needs) returns-3)
+ask-numbers-spec = tie.close (tie.spec (λ c κs. search needs) returns returns-2 (λ c κs. is-square (c .before .before .before .before .before .pre)) returns-3)

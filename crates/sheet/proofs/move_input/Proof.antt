@@ -3,8 +3,8 @@ use borrow.Author.Needs.{needs}
 use denote.Ref.{now}
 use mir.Syntax.{w64}
 use mir.ValLaws.{toZ-ofZ}
-use Prim.Native.Nat.{_*_}
 use lib.ListN.{length}
+use Rattle.definitions.specs.Sheet.{sheetNumbers}
 use Rattle.definitions.specs.Questions.{_then_, shapeQuestions, question4}
 use Rattle.answers.specs.Outcome.{ComesTo}
 use Rattle.answers.proofs.Outcome.{passed, ends, goes-on, in-other-words}
@@ -14,8 +14,8 @@ use Rattle.sheet.proofs.move_input.Statement.{statement}
 use Rattle.sheet.proofs.move_input.Tie as tie
 
 -- e is handed over by its bits, which mean e.
-asked : (c : tie.After-ask-table) → let a = c .before .before .args in ComesTo (shapeQuestions a.reading a.n a.e (length (now a.sheet)) then question4 (a.n * a.n) a.area) (c .ask-table .result) 0 0
-asked c = let s = c .before .before in rw (toZ-ofZ w64 s.args.e s.fits.e) at (c .ask-table .ensures)
+asked : (c : tie.After-ask-move) → let a = c .before .before .args in ComesTo (shapeQuestions a.reading a.n a.e (length (now a.sheet)) then question4 (sheetNumbers a.reading a.n) a.area) (c .ask-move .result) 0 0
+asked c = let s = c .before .before in rw (toZ-ofZ w64 s.args.e s.fits.e) at (c .ask-move .ensures)
 
 pub move-input-spec : {M : Type 1} → statement M
 move-input-spec =
