@@ -1,9 +1,11 @@
--- The counts of a sheet by its reading; both are small.
+-- The counts of a sheet by its reading; all are small.
+use mathlib.Core.Bool.{Bool, true, false, cond}
 use mathlib.Core.Path.{_≡_, refl, sym}
-use Prim.Native.Nat.{ℕ, _+_, _*_, _≤_}
+use Prim.Native.Nat.{ℕ, suc, _+_, _*_, _≤_}
 use native.Mathlib.Nat.{add-zero, mul-le-mul}
 use native.Mathlib.Omega.{arith}
 use borrow.Author.Tests.{ne-eqb}
+use lib.Dec.{eqb}
 use Rattle.definitions.specs.File.{headLength, fileLength}
 use Rattle.definitions.specs.Sheet.{sheetRows, sheetNumbers}
 
@@ -38,3 +40,21 @@ module _ (n : ℕ) where
 
 pub bytes-small : {n : ℕ} → n ≤ 32 → n * (8 + 8 * n) ≤ 8448
 bytes-small {n} h = omega (arith, square-small h)
+
+-- At most one row more than there are stages, and at most 1,056 numbers.
+module _ (reading n : ℕ) where
+  pub rows-few : sheetRows reading n ≤ n + 1
+  unfolding sheetRows
+  rows-few = go (eqb reading 3)
+    where
+      go : (weights : Bool) → cond weights (suc n) n ≤ n + 1
+      go true = omega arith
+      go false = omega arith
+
+  pub numbers-few : n ≤ 32 → sheetNumbers reading n ≤ 1056
+  unfolding sheetNumbers
+  numbers-few h = go (eqb reading 3)
+    where
+      go : (weights : Bool) → cond weights (n * n + n) (n * n) ≤ 1056
+      go true = omega (arith, square-small h)
+      go false = omega (arith, square-small h)

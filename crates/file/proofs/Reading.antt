@@ -1,11 +1,12 @@
 -- From the answer to the area: a sheet is a file that is accepted and that fits, and its numbers are due; a refusal leaves every place as it was.
-use Prim.Native.Nat.{ℕ, _*_, _≤_}
+use Prim.Native.Nat.{ℕ, _≤_}
 use mathlib.Core.List.{List}
 use mathlib.Core.Path.{_≡_, refl, sym, ap, _∙_}
 use lib.IntN.{ℤ}
 use Rattle.definitions.specs.Questions.{Asked, pass, refuse}
 use Rattle.definitions.specs.Services.{answer, given, refused, filled}
-use Rattle.definitions.specs.File.{Head, fileQuestions, headOf, fileAnswer}
+use Rattle.definitions.specs.Sheet.{sheetNumbers}
+use Rattle.definitions.specs.File.{Head, headReading, fileQuestions, headOf, fileAnswer}
 use Rattle.steps.proofs.QuestionLaws.{given-passes, given-is}
 use Rattle.answers.specs.declared.Loaded.{Loaded}
 use Rattle.answers.specs.declared.Loaded.the-variants.{Sheet, Refused}
@@ -29,14 +30,21 @@ module _ (bytes : List ℕ) (room : ℕ) {r : Loaded} (answered : headGiven r �
     passes : fileQuestions bytes room ≡ pass
     passes = given-passes (fileQuestions bytes room) head (headOf bytes) due
 
+    said : head ≡ headOf bytes
+    said = given-is (fileQuestions bytes room) head (headOf bytes) due
+
     pub sheet-file : SheetFile bytes n
     unfolding head headOf
-    sheet-file = record { room = room; passes = passes; stages = ap (λ h. h .n) (sym (given-is (fileQuestions bytes room) head (headOf bytes) due)) }
+    sheet-file = record { room = room; passes = passes; stages = ap (λ h. h .n) (sym said) }
+
+    reading-said : reading ≡ headReading bytes
+    unfolding head headOf
+    reading-said = ap (λ h. h .reading) said
 
     -- What filling the area asks.
-    pub to-fill : SheetFile bytes n × (n * n ≤ room)
+    pub to-fill : SheetFile bytes n × (reading ≡ headReading bytes) × (sheetNumbers reading n ≤ room)
     unfolding sheet-file
-    to-fill = (sheet-file, room-held bytes n sheet-file)
+    to-fill = (sheet-file, reading-said, rw reading-said (room-held bytes n sheet-file))
 
     -- The two promises, where the new numbers were written over the area's start.
     pub sheet-read : {A : Type 0} (new area : List A) {exit : List A} → exit ≡ filled pass new area → (headGiven (Sheet reading n e) ≡ fileAnswer bytes room) × (exit ≡ filled (fileQuestions bytes room) new area)

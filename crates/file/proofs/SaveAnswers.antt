@@ -1,10 +1,11 @@
 -- From the questions of saving to its two promises: a refusal leaves every byte, and else the file is written at the start.
-use Prim.Native.Nat.{ℕ, _*_, _≤_}
+use Prim.Native.Nat.{ℕ, _≤_}
 use mathlib.Core.List.{List}
 use mathlib.Core.Path.{_≡_, ap, _∙_}
 use lib.Dec.{T}
 use lib.IntN.{ℤ}
 use lib.ListN.{length}
+use Rattle.definitions.specs.Sheet.{sheetNumbers}
 use Rattle.definitions.specs.Questions.{pass, refuse, exponentInRange}
 use Rattle.definitions.specs.Services.{Answer, given, refused}
 use Rattle.definitions.specs.File.{fileLength}
@@ -27,10 +28,10 @@ module _ (reading n : ℕ) (e : ℤ) (words area : List ℕ) {held number : ℕ}
     yes = outcome.passed asked passed
 
     -- What the writer asks.
-    pub to-save : (held ≡ n * n) × (n ≤ 32) × (fileLength n ≤ length area) × T (exponentInRange e)
+    pub to-save : (held ≡ sheetNumbers reading n) × (n ≤ 32) × (fileLength reading n ≤ length area) × T (exponentInRange e)
     to-save =
         let p = save-passed reading n e held (length area) yes in
-        (p .0 .pairs, p .0 .few, p .1, p .0 .unit)
+        (p .0 .numbers, p .0 .few, p .1, p .0 .unit)
 
     pub saved : {after : List ℕ} {count : ℕ} → AtStart (sheetFile reading n e words) area after count
         → (given count ≡ saveAnswer reading n e held (length area)) × (after ≡ savedWords reading n e words area)

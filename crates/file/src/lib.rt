@@ -19,12 +19,8 @@ pub fn read_words(bytes: &[u8], area: &mut [u64]) -> Loaded
     ensures { λ _. ⌜ now (area .exit) ≡ fileWordArea (now (bytes .entry)) (now (area .entry)) ⌝ }
 {
     let answer = judge(bytes, area.len());
-    if let Loaded::Sheet {
-        reading: _,
-        n,
-        e: _,
-    } = answer {
-        payload::fill_words(bytes, n, area);
+    if let Loaded::Sheet { reading, n, e: _ } = answer {
+        payload::fill_words(bytes, reading, n, area);
     }
     answer
 }
@@ -35,12 +31,8 @@ pub fn read_numbers(bytes: &[u8], area: &mut [f64]) -> Loaded
     ensures { λ _. ⌜ now (area .exit) ≡ fileNumberArea (now (bytes .entry)) (now (area .entry)) ⌝ }
 {
     let answer = judge(bytes, area.len());
-    if let Loaded::Sheet {
-        reading: _,
-        n,
-        e: _,
-    } = answer {
-        payload::fill_numbers(bytes, n, area);
+    if let Loaded::Sheet { reading, n, e: _ } = answer {
+        payload::fill_numbers(bytes, reading, n, area);
     }
     answer
 }
@@ -83,7 +75,7 @@ pub fn save_numbers(reading: usize, n: usize, e: i64, sheet: &[f64], area: &mut 
 }
 
 // One byte more than the longest file: dwell takes no more of its input.
-pub const MOST: usize = 8461;
+pub const MOST: usize = 8723;
 
 // How many bytes of an input of `held` bytes dwell judges.
 pub fn judged(held: usize) -> usize

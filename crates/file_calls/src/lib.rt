@@ -3,7 +3,7 @@ ghost use Rattle.definitions.specs.File.{fileNumberArea, fileWordArea};
 ghost use Rattle.definitions.specs.Saving.{savedNumbers, savedWords};
 ghost use Rattle.file_calls.specs.FileCalls.{FileCall, SaveCall};
 
-// A sheet file's numbers in the first n × n places of the area, each from its bits.
+// A sheet file's numbers at the start of the area, each from its bits.
 pub fn read_numbers(
     bytes: &[u8],
     area: &mut [f64],
@@ -19,7 +19,7 @@ pub fn read_numbers(
     out_places::hand_head(numbers, reading, n, e, row, column)
 }
 
-// A sheet file's 64-bit words in the first n × n places of the area; every bit is kept.
+// A sheet file's 64-bit words at the start of the area; every bit is kept.
 pub fn read_words(
     bytes: &[u8],
     area: &mut [u64],

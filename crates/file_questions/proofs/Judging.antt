@@ -1,30 +1,32 @@
--- The questions of a file one by one: the head, one more row, the end, and the answer that they decide.
-use Prim.Native.Nat.{ℕ, suc, _+_, _-_, _*_, _≤_, _<_}
-use mathlib.Core.Bool.{true, false, _&&_, _||_}
+-- The questions of a file one by one: the head, one more record, the end, and the answer that they decide.
+use Prim.Native.Nat.{ℕ, suc, _+_, _-_, _≤_, _<_}
+use mathlib.Core.Bool.{true, false, _&&_}
 use mathlib.Core.List.{List}
 use mathlib.Core.Path.{_≡_, sym, _∙_}
-use native.Mathlib.Nat.{mul-le-mul}
+use native.Mathlib.Nat.{zero-add}
 use native.Mathlib.Omega.{arith}
 use borrow.Author.Tests.{lt-leb, le-leb, leb-true, ne-eqb, eqb-true}
 use lib.Dec.{T, leb, eqb}
 use lib.IntN.{ℤ}
 use lib.ListN.{length, drop, length-drop}
 use lib.Seq.{drop-drop}
-use Rattle.definitions.specs.Questions.{Asked, pass, refuse, _then_, exponentInRange, question1, question2, question4}
+use Rattle.definitions.specs.Questions.{Asked, pass, refuse, _then_, knownReading, exponentInRange, question1, question2, question4}
+use Rattle.definitions.specs.Sheet.{sheetRows, sheetNumbers}
 use Rattle.definitions.specs.Services.{refused}
-use Rattle.definitions.specs.File.{recordKind, recordLength, payload, little, rest, wholeRecord, headReading, headStages, headUnit, knownHead, goodHead, goodRow, rowQuestions, fileQuestions, headOf, fileAnswer}
+use Rattle.definitions.specs.File.{recordKind, recordLength, little, rest, wholeRecord, headReading, headStages, headUnit, knownHead, goodHead, goodRecord, recordQuestions, fileQuestions, headOf, fileAnswer}
 use Rattle.answers.specs.declared.Loaded.{Loaded}
 use Rattle.answers.specs.declared.Loaded.the-variants.{Sheet}
 use Rattle.answers.specs.Answers.{headGiven}
 use Rattle.exact.proofs.Bools.{and-first, and-second, holds}
+use Rattle.counts.proofs.Counts.{rows-few}
 use Rattle.records.proofs.Records.{whole-room}
-use Rattle.file_questions.proofs.HeadAndRows.{head-reading, head-stages}
+use Rattle.file_questions.proofs.HeadAndRecords.{head-reading, head-stages}
 
 -- What a good head says of its numbers.
 pub record Read (bytes : List ℕ) : Type 0 where
   pub kind : recordKind bytes ≡ 1
   pub size : knownHead bytes ≡ true
-  pub reading : (eqb (headReading bytes) 1 || eqb (headReading bytes) 2) ≡ true
+  pub reading : knownReading (headReading bytes) ≡ true
   pub least : 1 ≤ headStages bytes
   pub most : headStages bytes ≤ 32
   pub unit : T (exponentInRange (headUnit bytes))
@@ -34,7 +36,7 @@ unfolding goodHead
 head-read bytes e =
     let kind = eqb (recordKind bytes) 1 in
     let size = knownHead bytes in
-    let reading = eqb (headReading bytes) 1 || eqb (headReading bytes) 2 in
+    let reading = knownReading (headReading bytes) in
     let least = leb 1 (headStages bytes) in
     let most = leb (headStages bytes) 32 in
     let unit = exponentInRange (headUnit bytes) in
@@ -51,28 +53,10 @@ head-read bytes e =
       unit = holds (and-second (kind && size && reading && least && most) unit e);
     }
 
--- What a good row says of its numbers.
-pub record RowRead (n due : ℕ) (bytes : List ℕ) : Type 0 where
-  pub kind : recordKind bytes ≡ 2
-  pub size : recordLength bytes ≡ 2 + 8 * n
-  pub number : little 2 (payload bytes) ≡ due
-
-pub row-read : (n due : ℕ) (bytes : List ℕ) → goodRow n due bytes ≡ true → RowRead n due bytes
-unfolding goodRow
-row-read n due bytes e =
-    let kind = eqb (recordKind bytes) 2 in
-    let size = eqb (recordLength bytes) (2 + 8 * n) in
-    let number = eqb (little 2 (payload bytes)) due in
-    let upToSize = and-first (kind && size) number e in
-    record {
-      kind = eqb-true (recordKind bytes) 2 (and-first kind size upToSize);
-      size = eqb-true (recordLength bytes) (2 + 8 * n) (and-second kind size upToSize);
-      number = eqb-true (little 2 (payload bytes)) due (and-second (kind && size) number e);
-    }
-
--- The questions that are left when the rows from the one due, which starts at `at`, have yet to be asked.
-unfoldable pub rowsLeft : List ℕ → ℕ → ℕ → ℕ → ℕ → Asked
-rowsLeft bytes room n at due = rowQuestions n due (n + 1 - due) (drop at bytes) then question4 (n * n) room
+-- The questions that are left when the records from the one due, which starts at `at`, have yet to be asked: `rows` follow the head,
+-- and their numbers take so many places.
+unfoldable pub recordsLeft : List ℕ → ℕ → ℕ → ℕ → ℕ → ℕ → ℕ → Asked
+recordsLeft bytes room n rows places at due = recordQuestions n due (rows + 1 - due) (drop at bytes) then question4 places room
 
 module _ (bytes : List ℕ) (room : ℕ) where
   pub head-cut : wholeRecord bytes ≡ false → fileQuestions bytes room ≡ refuse 11 0 0
@@ -84,48 +68,53 @@ module _ (bytes : List ℕ) (room : ℕ) where
   head-bad w g = rw (w, g)
 
   -- 12 has asked 1 and 2.
-  pub head-good : wholeRecord bytes ≡ true → goodHead bytes ≡ true → (n : ℕ) → n ≡ headStages bytes → fileQuestions bytes room ≡ rowsLeft bytes room n (6 + recordLength bytes) 1
-  unfolding fileQuestions rowsLeft question1 question2 rest
-  head-good w g n e =
+  pub head-good : wholeRecord bytes ≡ true → goodHead bytes ≡ true
+      → fileQuestions bytes room ≡ recordsLeft bytes room (headStages bytes) (sheetRows (headReading bytes) (headStages bytes)) (sheetNumbers (headReading bytes) (headStages bytes)) (6 + recordLength bytes) 1
+  unfolding fileQuestions recordsLeft question1 question2 rest
+  head-good w g =
       let r = head-read bytes g in
-      let all : n + 1 - 1 ≡ n = omega arith in
-      rw (w, g, r .reading, le-leb 1 (headStages bytes) (r .least), le-leb (headStages bytes) 32 (r .most), all, e)
+      let rows = sheetRows (headReading bytes) (headStages bytes) in
+      let all : rows + 1 - 1 ≡ rows = omega arith in
+      rw (w, g, r .reading, le-leb 1 (headStages bytes) (r .least), le-leb (headStages bytes) 32 (r .most), all)
 
-  module _ (n at due : ℕ) where
-    pub row-cut : due ≤ n → wholeRecord (drop at bytes) ≡ false → rowsLeft bytes room n at due ≡ refuse 11 due 0
-    unfolding rowsLeft rowQuestions
-    row-cut h w =
-        let more : n + 1 - due ≡ suc (n - due) = omega arith in
-        rw (more, w)
+  module _ (n rows places at due : ℕ) where
+    abbrev left : Asked
+    left = recordsLeft bytes room n rows places at due
 
-    pub row-bad : due ≤ n → wholeRecord (drop at bytes) ≡ true → goodRow n due (drop at bytes) ≡ false → rowsLeft bytes room n at due ≡ refuse 13 due 0
-    unfolding rowsLeft rowQuestions
-    row-bad h w g =
-        let more : n + 1 - due ≡ suc (n - due) = omega arith in
-        rw (more, w, g)
+    module _ (h : due ≤ rows) where
+      more : rows + 1 - due ≡ suc (rows - due)
+      more = omega arith
 
-    pub row-good : due ≤ n → wholeRecord (drop at bytes) ≡ true → goodRow n due (drop at bytes) ≡ true → rowsLeft bytes room n at due ≡ rowsLeft bytes room n (at + (8 * n + 8)) (due + 1)
-    unfolding rowsLeft rowQuestions rest
-    row-good h w g =
-        let more : n + 1 - due ≡ suc (n - due) = omega arith in
-        let left : n + 1 - (due + 1) ≡ n - due = omega arith in
-        let next : due + 1 ≡ suc due = omega arith in
-        let size : at + (6 + recordLength (drop at bytes)) ≡ at + (8 * n + 8) = omega (arith, row-read n due (drop at bytes) g) in
-        rw (more, w, g, drop-drop (6 + recordLength (drop at bytes)) at bytes, size, left, next)
+      pub record-cut : wholeRecord (drop at bytes) ≡ false → left ≡ refuse 11 due 0
+      unfolding recordsLeft recordQuestions
+      record-cut w = rw (more, w)
 
-    pub bytes-after : n < due → at ≤ length bytes → (at ≡ length bytes → ⊥) → rowsLeft bytes room n at due ≡ refuse 14 0 0
-    unfolding rowsLeft rowQuestions
-    bytes-after h inside ne =
-        let none : n + 1 - due ≡ 0 = omega arith in
-        let some : length bytes - at ≡ 0 → ⊥ = λ z. ne (omega arith) in
-        rw (none, length-drop, ne-eqb (length bytes - at) 0 some)
+      pub record-bad : wholeRecord (drop at bytes) ≡ true → goodRecord n due (drop at bytes) ≡ false → left ≡ refuse 13 due 0
+      unfolding recordsLeft recordQuestions
+      record-bad w g = rw (more, w, g)
 
-    pub at-end : n < due → at ≡ length bytes → rowsLeft bytes room n at due ≡ question4 (n * n) room
-    unfolding rowsLeft rowQuestions
-    at-end h e =
-        let none : n + 1 - due ≡ 0 = omega arith in
-        let empty : length bytes - at ≡ 0 = omega arith in
-        rw (none, length-drop, empty)
+      pub record-good : wholeRecord (drop at bytes) ≡ true → goodRecord n due (drop at bytes) ≡ true → left ≡ recordsLeft bytes room n rows places (at + (6 + recordLength (drop at bytes))) (due + 1)
+      unfolding recordsLeft recordQuestions rest
+      record-good w g =
+          let after : rows + 1 - (due + 1) ≡ rows - due = omega arith in
+          let next : due + 1 ≡ suc due = omega arith in
+          rw (more, w, g, drop-drop (6 + recordLength (drop at bytes)) at bytes, after, next)
+
+    module _ (h : rows < due) where
+      none : rows + 1 - due ≡ 0
+      none = omega arith
+
+      pub bytes-after : at ≤ length bytes → (at ≡ length bytes → ⊥) → left ≡ refuse 14 0 0
+      unfolding recordsLeft recordQuestions
+      bytes-after inside ne =
+          let some : length bytes - at ≡ 0 → ⊥ = λ z. ne (omega arith) in
+          rw (none, length-drop, ne-eqb (length bytes - at) 0 some)
+
+      pub at-end : at ≡ length bytes → left ≡ question4 places room
+      unfolding recordsLeft recordQuestions
+      at-end e =
+          let empty : length bytes - at ≡ 0 = omega arith in
+          rw (none, length-drop, empty)
 
   -- The answer from the questions.
   pub refused-by : (number row : ℕ) (r : Loaded) → headGiven r ≡ refused number row 0 → fileQuestions bytes room ≡ refuse number row 0 → headGiven r ≡ fileAnswer bytes room
@@ -136,44 +125,47 @@ module _ (bytes : List ℕ) (room : ℕ) where
   unfolding fileAnswer headOf
   given-by reading n e r s u q = rw (q, r, s, u)
 
-pub few-squared : (n : ℕ) → n ≤ 32 → n * n ≤ 1024
-few-squared n h = mul-le-mul h h
-
-pub room-short : (n room : ℕ) → room < n * n → question4 (n * n) room ≡ refuse 4 0 0
+pub room-short : (places room : ℕ) → room < places → question4 places room ≡ refuse 4 0 0
 unfolding question4
-room-short n room h = rw (lt-leb (n * n) room h)
+room-short places room h = rw (lt-leb places room h)
 
-pub room-enough : (n room : ℕ) → n * n ≤ room → question4 (n * n) room ≡ pass
+pub room-enough : (places room : ℕ) → places ≤ room → question4 places room ≡ pass
 unfolding question4
-room-enough n room h = rw (le-leb (n * n) room h)
+room-enough places room h = rw (le-leb places room h)
 
--- How far a file is judged when the row due is to start at `at`: all before it is good.
-pub record Judged (bytes : List ℕ) (room reading n at due : ℕ) : Type 0 where
+-- How far a file is judged when the record due is to start at `at`: all before it is good.
+pub record Judged (bytes : List ℕ) (room reading n rows at due : ℕ) : Type 0 where
   pub inside : at ≤ length bytes
   pub few : n ≤ 32
-  pub stages : n ≡ headStages bytes
+  pub short : rows ≤ 33
   pub kind : reading ≡ headReading bytes
-  pub left : fileQuestions bytes room ≡ rowsLeft bytes room n at due
+  pub stages : n ≡ headStages bytes
+  pub left : fileQuestions bytes room ≡ recordsLeft bytes room n rows (sheetNumbers reading n) at due
 
-module _ (bytes : List ℕ) (room reading n : ℕ) where
-  pub judged-head : wholeRecord bytes ≡ true → goodHead bytes ≡ true → reading ≡ little 2 (drop 6 bytes) → n ≡ little 2 (drop 8 bytes) → Judged bytes room reading n (6 + recordLength bytes) 1
-  judged-head w g r s =
+module _ (bytes : List ℕ) (room reading n rows : ℕ) where
+  pub judged-head : (at : ℕ) → wholeRecord bytes ≡ true → goodHead bytes ≡ true → reading ≡ little 2 (drop 6 bytes) → n ≡ little 2 (drop 8 bytes) → rows ≡ sheetRows reading n → at ≡ 0 + (6 + recordLength bytes)
+      → Judged bytes room reading n rows at 1
+  judged-head at w g r s all behind =
       let read = head-read bytes g in
+      let kind : reading ≡ headReading bytes = r ∙ sym (head-reading bytes (read .size)) in
       let stages : n ≡ headStages bytes = s ∙ sym (head-stages bytes (read .size)) in
       record {
         inside = omega (arith, whole-room bytes 0 w);
         few = omega arith;
+        short = omega (arith, rows-few reading n);
+        kind = kind;
         stages = stages;
-        kind = r ∙ sym (head-reading bytes (read .size));
-        left = head-good bytes room w g n stages;
+        left = rw (all, kind, stages, behind, zero-add (6 + recordLength bytes)) (head-good bytes room w g);
       }
 
-  pub judged-row : (at due : ℕ) → Judged bytes room reading n at due → due ≤ n → wholeRecord (drop at bytes) ≡ true → goodRow n due (drop at bytes) ≡ true → Judged bytes room reading n (at + (8 * n + 8)) (due + 1)
-  judged-row at due j h w g =
+  pub judged-record : (at due : ℕ) → Judged bytes room reading n rows at due → due ≤ rows → wholeRecord (drop at bytes) ≡ true → goodRecord n due (drop at bytes) ≡ true
+      → Judged bytes room reading n rows (at + (6 + recordLength (drop at bytes))) (due + 1)
+  judged-record at due j h w g =
       record {
-        inside = omega (arith, whole-room bytes at w, row-read n due (drop at bytes) g);
+        inside = whole-room bytes at w;
         few = j .few;
-        stages = j .stages;
+        short = j .short;
         kind = j .kind;
-        left = j .left ∙ row-good bytes room n at due h w g;
+        stages = j .stages;
+        left = j .left ∙ record-good bytes room n rows (sheetNumbers reading n) at due h w g;
       }

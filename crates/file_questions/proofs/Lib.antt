@@ -1,2 +1,2 @@
-pub mod HeadAndRows
+pub mod HeadAndRecords
 pub mod Judging

@@ -1,14 +1,15 @@
-// The questions of a sheet file (document 01; document 02, U5): 11 to 14 record by record, then 4.
+// The questions of a sheet file (document 01; document 02, U5 and U10): 11 to 14 record by record, then 4.
 ghost use mathlib.Core.Bool.{true};
 ghost use mathlib.Core.Path.{_≡_};
 ghost use Prim.Native.Nat.{_+_, _≤_};
 ghost use lib.ListN.{length, drop};
-ghost use Rattle.definitions.specs.File.{recordLength, headUnit, knownHead, goodHead, goodRow, fileAnswer};
+ghost use Rattle.definitions.specs.File.{recordLength, headUnit, knownHead, goodHead, goodRecord, fileAnswer};
 ghost use Rattle.definitions.specs.Services as services;
 ghost use Rattle.answers.specs.Answers.{headGiven};
 use answers::Loaded;
 use records::field_at;
 use records::is_whole;
+use records::record_end;
 use records::signed_at;
 
 // The unit that a head says, of either length; an old head says none, and its unit is the second.
@@ -37,18 +38,24 @@ fn is_good_head(bytes: &[u8]) -> bool
     let reading = field_at(bytes, 6, 2);
     let n = field_at(bytes, 8, 2);
     let e = unit_of(bytes);
-    ((reading == 1) | (reading == 2)) & (1 <= n) & (n <= 32) & ((-512 <= e) & (e <= 512))
+    ((reading == 1) | (reading == 2) | (reading == 3))
+        & (1 <= n)
+        & (n <= 32)
+        & ((-512 <= e) & (e <= 512))
 }
 
-// Question 13, of the row that starts at `at` and that the file holds whole.
-fn is_good_row(bytes: &[u8], at: usize, n: usize, due: usize) -> bool
+// Question 13, of the record due, which starts at `at` and which the file holds whole: a row, or behind the last row
+// the weights, which have no number.
+fn is_good_record(bytes: &[u8], at: usize, n: usize, due: usize) -> bool
     requires { ⌜ (at + (6 + recordLength (drop at (now bytes))) ≤ length (now bytes)) × (n ≤ 32) ⌝ }
-    ensures { λ r. ⌜ r ≡ goodRow n due (drop at (now (bytes .entry))) ⌝ }
+    ensures { λ r. ⌜ r ≡ goodRecord n due (drop at (now (bytes .entry))) ⌝ }
 {
-    if field_at(bytes, at + 4, 2) != 2 {
-        return false;
+    let size = field_at(bytes, at, 4);
+    let kind = field_at(bytes, at + 4, 2);
+    if n < due {
+        return (kind == 3) & (size == 8 * n);
     }
-    if field_at(bytes, at, 4) != 2 + 8 * n {
+    if !((kind == 2) & (size == 2 + 8 * n)) {
         return false;
     }
     let number = field_at(bytes, at + 6, 2);
@@ -80,19 +87,20 @@ pub fn judge(bytes: &[u8], room: usize) -> Loaded
     let reading = field_at(bytes, 6, 2);
     let n = field_at(bytes, 8, 2);
     let e = unit_of(bytes);
-    let mut at = 6 + field_at(bytes, 0, 4);
+    let rows = counts::rows(reading, n);
+    let mut at = record_end(bytes, 0);
     let mut due = 1;
-    while due <= n {
+    while due <= rows {
         if !is_whole(bytes, at) {
             return refused(11, due);
         }
-        if !is_good_row(bytes, at, n, due) {
+        if !is_good_record(bytes, at, n, due) {
             return refused(13, due);
         }
-        at += 8 * n + 8;
+        at = record_end(bytes, at);
         due += 1;
     }
-    let places = n * n;
+    let places = counts::numbers(reading, n);
     if at != bytes.len() {
         return refused(14, 0);
     }

@@ -2,3 +2,4 @@ pub mod Little
 pub mod Records
 pub mod Signed
 pub mod LittleBytes
+pub mod RecordDue

@@ -5,7 +5,7 @@ ghost use mathlib.Core.List.{_++_};
 ghost use Prim.Native.Nat.{_+_, _≤_, _<_};
 ghost use lib.ListN.{length, drop};
 ghost use lib.Signed.{mag};
-ghost use Rattle.definitions.specs.File.{little, signed, wholeRecord};
+ghost use Rattle.definitions.specs.File.{little, signed, recordLength, wholeRecord};
 ghost use Rattle.definitions.specs.Saving as saving;
 ghost use Rattle.definitions.specs.Saving.{littleBytes};
 ghost use Rattle.buffer.specs.Pasted.{Room, Written};
@@ -65,6 +65,14 @@ pub fn is_whole(bytes: &[u8], at: usize) -> bool
         return false;
     }
     field_at(bytes, at, 4) <= left - 6
+}
+
+// Where the record that starts at `at`, and that the file holds whole, ends.
+pub fn record_end(bytes: &[u8], at: usize) -> usize
+    requires { ⌜ at + (6 + recordLength (drop at (now bytes))) ≤ length (now bytes) ⌝ }
+    ensures { λ r. ⌜ r ≡ at + (6 + recordLength (drop at (now (bytes .entry)))) ⌝ }
+{
+    at + (6 + field_at(bytes, at, 4))
 }
 
 // Writes a number in `width` bytes, little-endian, as `buffer` writes.

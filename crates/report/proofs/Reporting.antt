@@ -1,8 +1,6 @@
 -- From the answers of the file's reader and of the whole table to the text that is due for them.
 use mathlib.Core.Path.{_≡_, refl, sym, ap, _∙_}
-use Prim.Native.Nat.{ℕ, suc, _*_, _≤_}
-use native.Mathlib.Nat.{mul-le-mul}
-use native.Mathlib.Decide.{decLe}
+use Prim.Native.Nat.{ℕ, suc, _≤_}
 use native.Mathlib.Omega.{arith}
 use mathlib.Core.Bool.{cond}
 use mathlib.Core.List.{List, _++_}
@@ -13,6 +11,7 @@ use lib.ListN.{length, take, drop}
 use lib.Seq.{take-at, take-all, take-length, length-take-le}
 use lib.Ieee.{Float}
 use Rattle.exact.proofs.Cases.{by-bool}
+use Rattle.definitions.specs.Sheet.{sheetNumbers}
 use Rattle.definitions.specs.Questions.{Asked, pass, refuse}
 use Rattle.definitions.specs.Services.{given, answer, tableAnswer}
 use Rattle.definitions.specs.File.{fileQuestions, fileAnswer, fileNumbers, fileNumberArea, longestFile}
@@ -24,8 +23,9 @@ use Rattle.text.proofs.Answer.{text-of-answer}
 use Rattle.answers.specs.declared.Loaded.{Loaded}
 use Rattle.answers.specs.declared.Loaded.the-variants as file
 use Rattle.answers.specs.Answers.{filledGiven, headGiven}
-use Rattle.file.proofs.Reading.{sheet-file, to-fill}
-use Rattle.payload.proofs.FileWords.{file-numbers-length}
+use Rattle.counts.proofs.Counts.{numbers-few}
+use Rattle.file.proofs.Reading.{to-fill}
+use Rattle.payload.proofs.FileWords.{few-stages, words-due, as-many-words}
 use Rattle.answers.specs.declared.Filled.{Filled}
 use Rattle.planner.specs.Promises.{TableDone}
 use Rattle.report.specs.Reported.{Reported}
@@ -54,19 +54,10 @@ passed : {A : Type 0} (asked : Asked) (value due : A) → answer asked value ≡
 passed pass value due e = refl
 passed (refuse number row column) value due e = cc
 
-few : (n : ℕ) → n * n ≤ 1024 → n ≤ 32
-few n h = elim (decLe n 32) [
-  | yes l ↦ l
-  | no l ↦ let above : 33 ≤ n = omega arith in omega (arith, mul-le-mul above above)
-]
-
-module _ (bytes : List ℕ) (before after : List Float) (room : length before ≡ 1024) {r : Loaded} (answered : headGiven r ≡ fileAnswer bytes (length before))
+module _ (bytes : List ℕ) (before after : List Float) (room : length before ≡ 1056) {r : Loaded} (answered : headGiven r ≡ fileAnswer bytes (length before))
     (area : after ≡ fileNumberArea bytes before) {reading n : ℕ} {e : ℤ} (sheet : r ≡ file.Sheet reading n e) where
-  pub places : n * n ≤ 1024
-  places = rw room at (to-fill bytes (length before) answered sheet .1)
-
   pub stages : n ≤ 32
-  stages = few n places
+  stages = few-stages bytes n (to-fill bytes (length before) answered sheet .0)
 
   is-given : fileAnswer bytes (length before) ≡ given (record { reading = reading; n = n; e = e })
   is-given = sym (rw sheet at answered)
@@ -75,16 +66,26 @@ module _ (bytes : List ℕ) (before after : List Float) (room : length before �
   unfolding fileNumberArea fileAnswer
   starts = area ∙ rw (passed (fileQuestions bytes (length before)) _ _ is-given)
 
-  numbers : take (n * n) after ≡ fileNumbers bytes
-  numbers = rw starts (take-at (fileNumbers bytes) _ (n * n) (file-numbers-length bytes n (sheet-file bytes (length before) answered sheet)))
+  -- The code counts the sheet's numbers.
+  module _ {places : ℕ} (count : places ≡ sheetNumbers reading n) where
+    pub inside : places ≤ 1056
+    inside = rw count (numbers-few reading n stages)
 
-  pub sheet-text : tableText reading n e (take (n * n) after) (tableAnswer reading n e (take (n * n) after) 1024) ≡ fileText bytes (fileAnswer bytes 1024)
-  unfolding fileText
-  sheet-text = rw (numbers, ← room, is-given, room)
+    all-numbers : length (fileNumbers bytes) ≡ places
+    all-numbers =
+        let filling = to-fill bytes (length before) answered sheet in
+        as-many-words bytes ∙ words-due bytes n (filling .0) (filling .1) count
+
+    numbers : take places after ≡ fileNumbers bytes
+    numbers = rw starts (take-at (fileNumbers bytes) _ places all-numbers)
+
+    pub sheet-text : tableText reading n e (take places after) (tableAnswer reading n e (take places after) 1024) ≡ fileText bytes (fileAnswer bytes 1056)
+    unfolding fileText
+    sheet-text = rw (numbers, ← room, is-given)
 
 -- A file that is refused has the line of its refusal.
-pub file-refused : (bytes : List ℕ) {r : Loaded} {number row column : ℕ} → headGiven r ≡ fileAnswer bytes 1024 → r ≡ file.Refused number row column
-    → refusedLine number row column ≡ fileText bytes (fileAnswer bytes 1024)
+pub file-refused : (bytes : List ℕ) {r : Loaded} {number row column : ℕ} → headGiven r ≡ fileAnswer bytes 1056 → r ≡ file.Refused number row column
+    → refusedLine number row column ≡ fileText bytes (fileAnswer bytes 1056)
 unfolding fileText
 file-refused bytes answered e = ap (fileText bytes) (rw e at answered)
 
@@ -93,7 +94,7 @@ judged-bytes : (most : ℕ) (input : List ℕ) → take (cond (ltb (length input
 judged-bytes most input = by-bool (ltb (length input) most) (λ e. rw (e, take-length, take-all most input (omega (arith, ltb-true (length input) most e)))) (λ e. rw e)
 
 pub dwell-text : (input : List ℕ) {most : ℕ} → most ≡ cond (ltb (length input) (suc longestFile)) (length input) (suc longestFile)
-    → fileText (take most input) (fileAnswer (take most input) 1024) ≡ dwellText input
+    → fileText (take most input) (fileAnswer (take most input) 1056) ≡ dwellText input
 unfolding dwellText
 dwell-text input e = rw (e, judged-bytes (suc longestFile) input)
 

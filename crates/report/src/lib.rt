@@ -22,13 +22,13 @@ fn table_text(reading: usize, n: usize, e: i64, sheet: &[f64], out: &mut [u8]) -
 // the length of the text.
 pub fn answer(bytes: &[u8], out: &mut [u8]) -> usize
     requires { ⌜ 32768 ≤ length (now out) ⌝ }
-    ensures { λ r. let bytes = now (bytes .entry) in ⌜ Reported (fileText bytes (fileAnswer bytes 1024)) (now (out .entry)) (now (out .exit)) r ⌝ }
+    ensures { λ r. let bytes = now (bytes .entry) in ⌜ Reported (fileText bytes (fileAnswer bytes 1056)) (now (out .entry)) (now (out .exit)) r ⌝ }
 {
-    let mut area = [0.0f64; 1024];
+    let mut area = [0.0f64; 1056];
     let loaded = file::read_numbers(bytes, &mut area);
     match loaded {
         Loaded::Sheet { reading, n, e } => {
-            let places = n * n;
+            let places = counts::numbers(reading, n);
             table_text(reading, n, e, &area[..places], out)
         }
         Loaded::Refused {

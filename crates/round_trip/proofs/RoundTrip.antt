@@ -1,22 +1,21 @@
 -- The round trips.
-use Prim.Native.Nat.{ℕ, _*_, _^_, _≤_, _<_}
-use mathlib.Core.Bool.{true, _||_}
+use Prim.Native.Nat.{ℕ, _^_, _≤_, _<_}
+use mathlib.Core.Bool.{true}
 use mathlib.Core.List.{List}
-use mathlib.Core.Logic.{⊎-elim}
 use mathlib.Core.Path.{_≡_, refl, sym, ap, _∙_}
 use native.Mathlib.Omega.{arith}
 use borrow.Author.Tests.{eq-eqb, le-leb}
-use lib.Dec.{eqb}
 use lib.IntN.{ℤ}
 use lib.ListN.{length, take, length-map}
 use lib.Seq.{take-at}
 use lib.Ieee.{binary64, ofBits}
 use lib.Ieee.Bits.{is-true}
-use Rattle.definitions.specs.Questions.{pass, exponentInRange, question1, question2, question12, question3, sizeQuestions, shapeQuestions, question4}
+use Rattle.definitions.specs.Sheet.{sheetNumbers}
+use Rattle.definitions.specs.Questions.{pass, knownReading, exponentInRange, question1, question2, question12, question3, sizeQuestions, shapeQuestions, question4}
 use Rattle.definitions.specs.Services.{given}
 use Rattle.definitions.specs.File.{Head, headReading, headStages, headUnit, fileLength, fileQuestions, headOf, fileAnswer, fileWords, fileNumbers}
 use Rattle.definitions.specs.Saving.{sheetFile, saveQuestions, saveAnswer, sheetWords, savedWords, savedNumbers}
-use Rattle.steps.proofs.QuestionLaws.{ask-yes, reading-passed, reading-is, given-passes, given-is}
+use Rattle.steps.proofs.QuestionLaws.{ask-yes, reading-passed, Reading, leaving-rates, margins, with-weights, reading-is, given-passes, given-is}
 use Rattle.shape.proofs.ShapeQuestions.{Sized, save-passed}
 use Rattle.payload.specs.SheetFile.{SheetFile}
 use Rattle.payload.proofs.FileWords.{file-passed, file-words-length}
@@ -31,33 +30,38 @@ use Rattle.round_trip.proofs.NumberWords.{words-below, numbers-back, wo
 module _ (reading n : ℕ) (e : ℤ) (held room : ℕ) (passes : saveQuestions reading n e held room ≡ pass) where
   first : question1 reading ≡ pass
   unfolding saveQuestions
-  first = reading-passed reading n e held (question4 (fileLength n) room) passes
+  first = reading-passed reading n e held (question4 (fileLength reading n) room) passes
 
-  known : (eqb reading 1 || eqb reading 2) ≡ true
+  known : knownReading reading ≡ true
   unfolding question1
-  known = is-true (eqb reading 1 || eqb reading 2) (ask-yes (eqb reading 1 || eqb reading 2) 1 0 0 first)
+  known = is-true (knownReading reading) (ask-yes (knownReading reading) 1 0 0 first)
 
   narrow : reading < 256 ^ 2
-  narrow = ⊎-elim (λ e. omega arith) (λ e. omega arith) (reading-is reading first)
+  narrow = go (reading-is reading first)
+    where
+      go : Reading reading → reading < 256 ^ 2
+      go (leaving-rates is) = omega arith
+      go (margins is) = omega arith
+      go (with-weights is) = omega arith
 
 -- A sheet that is saved: the first bytes of the area are its file.
 module _ (reading n : ℕ) (e : ℤ) (words area : List ℕ) {size : ℕ} (saves : saveAnswer reading n e (length words) (length area) ≡ given size) where
   passes : saveQuestions reading n e (length words) (length area) ≡ pass
   unfolding saveAnswer
-  passes = given-passes (saveQuestions reading n e (length words) (length area)) size (fileLength n) (sym saves)
+  passes = given-passes (saveQuestions reading n e (length words) (length area)) size (fileLength reading n) (sym saves)
 
-  handed : size ≡ fileLength n
+  handed : size ≡ fileLength reading n
   unfolding saveAnswer
-  handed = given-is (saveQuestions reading n e (length words) (length area)) size (fileLength n) (sym saves)
+  handed = given-is (saveQuestions reading n e (length words) (length area)) size (fileLength reading n) (sym saves)
 
-  sizes : Sized n e (length words)
+  sizes : Sized reading n e (length words)
   sizes = save-passed reading n e (length words) (length area) passes .0
 
   file-saved : take size (savedWords reading n e words area) ≡ sheetFile reading n e words
   unfolding savedWords
-  file-saved = rw passes (take-at (sheetFile reading n e words) _ size (length-file reading n e words (sizes .pairs) ∙ sym handed))
+  file-saved = rw passes (take-at (sheetFile reading n e words) _ size (length-file reading n e words (sizes .numbers) ∙ sym handed))
 
-  module _ (room : ℕ) (enough : n * n ≤ room) where
+  module _ (room : ℕ) (enough : sheetNumbers reading n ≤ room) where
     abbrev file : List ℕ
     file = take size (savedWords reading n e words area)
 
@@ -66,13 +70,13 @@ module _ (reading n : ℕ) (e : ℤ) (words area : List ℕ) {size : ℕ} (saves
     answers-back =
         let k = known reading n e (length words) (length area) passes in
         let s = narrow reading n e (length words) (length area) passes in
-        rw (file-saved, file-passes reading n e room words k s (sizes .least) (sizes .few) (sizes .pairs) enough (sizes .unit), file-reading reading n e room words k s (sizes .least) (sizes .few) (sizes .pairs) enough (sizes .unit), file-stages reading n e room words k s (sizes .least) (sizes .few) (sizes .pairs) enough (sizes .unit), file-unit reading n e room words k s (sizes .least) (sizes .few) (sizes .pairs) enough (sizes .unit))
+        rw (file-saved, file-passes reading n e room words k s (sizes .least) (sizes .few) (sizes .numbers) enough (sizes .unit), file-reading reading n e room words k s (sizes .least) (sizes .few) (sizes .numbers) enough (sizes .unit), file-stages reading n e room words k s (sizes .least) (sizes .few) (sizes .numbers) enough (sizes .unit), file-unit reading n e room words k s (sizes .least) (sizes .few) (sizes .numbers) enough (sizes .unit))
 
     words-again : Below (2 ^ 64) words → fileWords file ≡ words
     words-again b =
         let k = known reading n e (length words) (length area) passes in
         let s = narrow reading n e (length words) (length area) passes in
-        rw file-saved (file-words reading n e room words k s (sizes .least) (sizes .few) (sizes .pairs) enough (sizes .unit) b)
+        rw file-saved (file-words reading n e room words k s (sizes .least) (sizes .few) (sizes .numbers) enough (sizes .unit) b)
 
 pub loads-what-was-saved : LoadsWhatWasSaved
 unfolding LoadsWhatWasSaved
@@ -107,20 +111,20 @@ module _ (bytes area : List ℕ) (head : Head) (room : ℕ) (b : Below 256 bytes
   unfolding fileAnswer
   sheet = record { room = room; passes = given-passes (fileQuestions bytes room) head (headOf bytes) (sym loads); stages = refl }
 
-  all-words : length (fileWords bytes) ≡ n * n
+  all-words : length (fileWords bytes) ≡ sheetNumbers reading n
   all-words = file-words-length bytes n sheet
 
   same-bytes : sheetFile reading n e (fileWords bytes) ≡ withUnit bytes
   same-bytes = file-again bytes n b sheet
 
-  same-length : fileLength n ≡ length (withUnit bytes)
+  same-length : fileLength reading n ≡ length (withUnit bytes)
   same-length = sym (length-file reading n e (fileWords bytes) all-words) ∙ ap length same-bytes
 
   asked : saveQuestions reading n e (length (fileWords bytes)) (length area) ≡ pass
   unfolding saveQuestions shapeQuestions sizeQuestions question1 question2 question12 question3 question4
   asked =
       let p = file-passed bytes n sheet in
-      rw (p .read .reading, le-leb 1 n (p .least), le-leb n 32 (p .most), is-true (exponentInRange e) (p .read .unit), eq-eqb (length (fileWords bytes)) (n * n) all-words, same-length, le-leb (length (withUnit bytes)) (length area) fits)
+      rw (p .read .reading, le-leb 1 n (p .least), le-leb n 32 (p .most), is-true (exponentInRange e) (p .read .unit), eq-eqb (length (fileWords bytes)) (sheetNumbers reading n) all-words, same-length, le-leb (length (withUnit bytes)) (length area) fits)
 
   pub saved-answer : saveAnswer (head .reading) (head .n) (head .e) (length (fileWords bytes)) (length area) ≡ given (length (withUnit bytes))
   unfolding saveAnswer

@@ -9,18 +9,20 @@ use lib.Dec.{eqb, lit<}
 use lib.ListN.{length, take, drop, length-append, length-drop, take-append-drop}
 use lib.Seq.{take-at, drop-at, drop-drop, take-add, take-all}
 use lib.Ieee.Bits.{is-true}
+use Rattle.definitions.specs.Sheet.{sheetRows}
 use Rattle.definitions.specs.Questions.{pass}
-use Rattle.definitions.specs.File.{little, recordLength, recordKind, payload, rest, wholeRecord, oldHeadLength, headReading, headStages, headUnit, rowQuestions, words, rowWords, fileWords}
-use Rattle.definitions.specs.Saving.{littleBytes, recordBytes, complement, headBytes, wordBytes, rowBytes, rowsBytes, sheetFile}
+use Rattle.definitions.specs.File.{little, recordLength, recordKind, payload, rest, wholeRecord, oldHeadLength, headReading, headStages, headUnit, recordQuestions, numberBytes, words, recordWords, fileWords}
+use Rattle.definitions.specs.Saving.{littleBytes, recordBytes, complement, headBytes, wordBytes, bytesDue, recordsBytes, sheetFile}
 use Rattle.steps.proofs.QuestionLaws.{ask-yes}
 use Rattle.exact.proofs.Cases.{by-equal}
 use Rattle.records.proofs.Little.{below}
 use Rattle.records.proofs.LittleBytes.{length-little}
+use Rattle.records.proofs.RecordDue.{numberDue, widthDue, bytes-due, numbers-due, RecordRead}
 use Rattle.records.proofs.Signed.{complement-signed}
-use Rattle.file_questions.proofs.HeadAndRows.{at-least-four, not-four, old-unit}
-use Rattle.file_questions.proofs.Judging.{Read, RowRead}
+use Rattle.file_questions.proofs.HeadAndRecords.{at-least-four, not-four, old-unit}
+use Rattle.file_questions.proofs.Judging.{Read}
 use Rattle.payload.specs.SheetFile.{SheetFile}
-use Rattle.payload.proofs.FileWords.{words-length, row-passed, file-passed}
+use Rattle.payload.proofs.FileWords.{words-length, record-passed, file-passed}
 use Rattle.round_trip.specs.RoundTrip.{Below, withUnit}
 use Rattle.round_trip.proofs.Bytes.{bytes-back, below-drop, below-take, below-nothing, below-more, below-append, below-all}
 use Rattle.round_trip.proofs.RecordBytes.{length-payload, kind-bytes-back, record-back}
@@ -39,25 +41,29 @@ below-payload : (bytes : List ℕ) → Below 256 bytes → Below 256 (payload by
 unfolding payload
 below-payload bytes b = below-take (recordLength bytes) (drop 6 bytes) (below-drop 6 bytes b)
 
--- One row.
-module _ (n due : ℕ) (bytes : List ℕ) (b : Below 256 bytes) (whole : wholeRecord bytes ≡ true) (read : RowRead n due bytes) where
-  held : length (payload bytes) ≡ 2 + 8 * n
+-- One record.
+module _ (n due : ℕ) (bytes : List ℕ) (b : Below 256 bytes) (whole : wholeRecord bytes ≡ true) (read : RecordRead n due bytes) where
+  abbrev width : ℕ
+  width = widthDue n due
+
+  held : length (payload bytes) ≡ width + 8 * n
   held = length-payload bytes b whole ∙ read .size
 
-  number-bytes : littleBytes 2 due ≡ take 2 (payload bytes)
-  number-bytes = rw (← read .number) (bytes-back 2 (payload bytes) (below-payload bytes b) (omega (arith, held)))
+  number-again : littleBytes width (numberDue n due) ≡ take width (payload bytes)
+  number-again = rw (← read .number) (bytes-back width (payload bytes) (below-payload bytes b) (omega (arith, held)))
 
-  row-bytes : wordBytes (words n (drop 2 (payload bytes))) ≡ drop 2 (payload bytes)
-  row-bytes =
-      let size : length (drop 2 (payload bytes)) ≡ 8 * n = rw length-drop (omega (arith, held)) in
-      word-bytes-back n (drop 2 (payload bytes)) (below-drop 2 (payload bytes) (below-payload bytes b)) (omega arith)
-      ∙ take-all (8 * n) (drop 2 (payload bytes)) (omega arith)
+  words-again : wordBytes (words n (drop width (payload bytes))) ≡ drop width (payload bytes)
+  words-again =
+      let size : length (drop width (payload bytes)) ≡ 8 * n = rw length-drop (omega (arith, held)) in
+      word-bytes-back n (drop width (payload bytes)) (below-drop width (payload bytes) (below-payload bytes b)) (omega arith)
+      ∙ take-all (8 * n) (drop width (payload bytes)) (omega arith)
 
-  pub row-again : rowBytes due (words n (drop 2 (payload bytes))) ++ rest bytes ≡ bytes
-  unfolding rowBytes
-  row-again = rw (number-bytes, row-bytes, take-append-drop 2 (payload bytes), ← read .kind) (record-back bytes b whole)
+  pub record-again : bytesDue n due (words n (numberBytes n due bytes)) ++ rest bytes ≡ bytes
+  record-again =
+      rw (bytes-due n due (words n (numberBytes n due bytes)), numbers-due n due bytes, number-again, words-again, take-append-drop width (payload bytes), ← read .kind)
+      (record-back bytes b whole)
 
--- All rows.
+-- All records.
 below-after : (bytes : List ℕ) → Below 256 bytes → Below 256 (rest bytes)
 unfolding rest
 below-after bytes b = below-drop (6 + recordLength bytes) bytes b
@@ -66,16 +72,16 @@ empty : (bytes : List ℕ) → length bytes ≡ 0 → [] ≡ bytes
 empty [] e = refl
 empty (x ∷ bytes) e = absurd (omega arith)
 
-pub rows-again : (n due m : ℕ) (bytes : List ℕ) → Below 256 bytes → rowQuestions n due m bytes ≡ pass → rowsBytes n due m (rowWords n m bytes) ≡ bytes
-unfolding rowQuestions rowWords rowsBytes
-rows-again n due zero bytes b e = empty bytes (eqb-true (length bytes) 0 (is-true (eqb (length bytes) 0) (ask-yes (eqb (length bytes) 0) 14 0 0 e)))
-rows-again n due (suc m) bytes b e =
-    let row = row-passed n due m bytes e in
-    let list = words n (drop 2 (payload bytes)) in
-    let later = rowWords n m (rest bytes) in
-    let size = words-length n (drop 2 (payload bytes)) in
-    rw (take-at list later n size, drop-at list later n size, rows-again n (suc due) m (rest bytes) (below-after bytes b) (row .later))
-    (row-again n due bytes b (row .whole) (row .read))
+pub records-again : (n due m : ℕ) (bytes : List ℕ) → Below 256 bytes → recordQuestions n due m bytes ≡ pass → recordsBytes n due m (recordWords n due m bytes) ≡ bytes
+unfolding recordQuestions recordWords recordsBytes
+records-again n due zero bytes b e = empty bytes (eqb-true (length bytes) 0 (is-true (eqb (length bytes) 0) (ask-yes (eqb (length bytes) 0) 14 0 0 e)))
+records-again n due (suc m) bytes b e =
+    let passed = record-passed n due m bytes e in
+    let list = words n (numberBytes n due bytes) in
+    let later = recordWords n (suc due) m (rest bytes) in
+    let size = words-length n (numberBytes n due bytes) in
+    rw (take-at list later n size, drop-at list later n size, records-again n (suc due) m (rest bytes) (below-after bytes b) (passed .later))
+    (record-again n due bytes b (passed .whole) (passed .read))
 
 -- The head, of either length.
 module _ (bytes : List ℕ) (b : Below 256 bytes) (whole : wholeRecord bytes ≡ true) (read : Read bytes) where
@@ -144,7 +150,7 @@ pub file-again : (bytes : List ℕ) (n : ℕ) → Below 256 bytes → SheetFile 
 unfolding sheetFile fileWords
 file-again bytes n b file =
     let passed = file-passed bytes n file in
-    rw (← file .stages, rows-again (headStages bytes) 1 (headStages bytes) (rest bytes) (below-after bytes b) (rw (← file .stages) at (passed .rows)))
+    rw (← file .stages, records-again (headStages bytes) 1 (sheetRows (headReading bytes) (headStages bytes)) (rest bytes) (below-after bytes b) (rw (← file .stages) at (passed .records)))
     (head-again bytes b (passed .whole) (passed .read))
 
 -- The words that are read from bytes are 64-bit words.
@@ -153,13 +159,14 @@ unfolding words
 words-below zero bytes b = below-nothing
 words-below (suc m) bytes b = below-more (little 8 bytes) (words m (drop 8 bytes)) (below 8 bytes (below-all (lit< tt) bytes b)) (words-below m (drop 8 bytes) (below-drop 8 bytes b))
 
-row-words-below : (n m : ℕ) (bytes : List ℕ) → Below 256 bytes → Below (256 ^ 8) (rowWords n m bytes)
-unfolding rowWords
-row-words-below n zero bytes b = below-nothing
-row-words-below n (suc m) bytes b =
-    below-append (words n (drop 2 (payload bytes))) (rowWords n m (rest bytes)) (words-below n (drop 2 (payload bytes)) (below-drop 2 (payload bytes) (below-payload bytes b)))
-    (row-words-below n m (rest bytes) (below-after bytes b))
+record-words-below : (n due m : ℕ) (bytes : List ℕ) → Below 256 bytes → Below (256 ^ 8) (recordWords n due m bytes)
+unfolding recordWords
+record-words-below n due zero bytes b = below-nothing
+record-words-below n due (suc m) bytes b =
+    below-append (words n (numberBytes n due bytes)) (recordWords n (suc due) m (rest bytes))
+    (words-below n (numberBytes n due bytes) (rw (numbers-due n due bytes) (below-drop (widthDue n due) (payload bytes) (below-payload bytes b))))
+    (record-words-below n (suc due) m (rest bytes) (below-after bytes b))
 
 pub file-words-below : (bytes : List ℕ) → Below 256 bytes → Below (256 ^ 8) (fileWords bytes)
 unfolding fileWords
-file-words-below bytes b = row-words-below (headStages bytes) (headStages bytes) (rest bytes) (below-after bytes b)
+file-words-below bytes b = record-words-below (headStages bytes) 1 (sheetRows (headReading bytes) (headStages bytes)) (rest bytes) (below-after bytes b)

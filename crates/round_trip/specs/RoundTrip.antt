@@ -1,6 +1,6 @@
 -- "Loading a saved file yields equal numbers in every bit, NaN included; saving a loaded file yields its bytes" (document 02, U1), with
--- the unit and a head of six bytes (U5).
-use Prim.Native.Nat.{ℕ, _*_, _^_, _≤_, _<_}
+-- the unit and a head of six bytes (U5), in every reading, with the weights (U10).
+use Prim.Native.Nat.{ℕ, _^_, _≤_, _<_}
 use mathlib.Core.Bool.{true, cond}
 use mathlib.Core.List.{List, [], _∷_, _++_}
 use mathlib.Core.Path.{_≡_}
@@ -9,6 +9,7 @@ use lib.IntN.{ℤ}
 use lib.ListN.{length, take, drop, getD}
 use lib.Ieee.{Float, binary64, toBits, nan, nanBits}
 use Rattle.definitions.specs.Accuracy.{Binary64}
+use Rattle.definitions.specs.Sheet.{sheetNumbers}
 use Rattle.definitions.specs.Services.{given}
 use Rattle.definitions.specs.File.{recordLength, oldHeadLength, Head, fileAnswer, fileWords, fileNumbers}
 use Rattle.definitions.specs.Saving.{saveAnswer, savedWords, savedNumbers}
@@ -30,7 +31,7 @@ LoadsWhatWasSaved =
     (reading n : ℕ) (e : ℤ) (words area : List ℕ) (size room : ℕ)
     → Words words
     → saveAnswer reading n e (length words) (length area) ≡ given size
-    → n * n ≤ room
+    → sheetNumbers reading n ≤ room
     → let file = take size (savedWords reading n e words area) in
     (fileAnswer file room ≡ given (record { reading = reading; n = n; e = e })) × (fileWords file ≡ words)
 
@@ -40,7 +41,7 @@ LoadsNumbersThatWereSaved =
     (reading n : ℕ) (e : ℤ) (sheet : List Float) (area : List ℕ) (size room : ℕ)
     → Binary64 sheet
     → saveAnswer reading n e (length sheet) (length area) ≡ given size
-    → n * n ≤ room
+    → sheetNumbers reading n ≤ room
     → let file = take size (savedNumbers reading n e sheet area) in
     (fileAnswer file room ≡ given (record { reading = reading; n = n; e = e })) × (fileNumbers file ≡ sheet)
 

@@ -6,11 +6,11 @@ use Rattle.file.proofs.judged.Tie as tie
 
 returns : tie.Need-returns
 unfolding longestFile fileLength headLength
-returns c = rw (lt-ltb (c .before .args .held) 8461 (c .if1 .taken))
+returns c = rw (lt-ltb (c .before .args .held) 8723 (c .if1 .taken))
 
 returns-2 : tie.Need-returns-2
 unfolding longestFile fileLength headLength
-returns-2 c = rw (le-ltb (c .before .args .held) 8461 (c .if1 .left))
+returns-2 c = rw (le-ltb (c .before .args .held) 8723 (c .if1 .left))
 
 pub judged-spec : {M : Type 1} → statement M
 judged-spec = tie.close (tie.spec returns returns-2)

@@ -7,9 +7,9 @@ use mathlib.Core.Bool.{true}
 use lib.ListN.{length, drop}
 use mir.Syntax.{w64}
 use mir.ValLaws.{toZ-ofZ}
-use Rattle.definitions.specs.Questions.{exponentInRange}
+use Rattle.definitions.specs.Questions.{knownReading, exponentInRange}
 use Rattle.definitions.specs.File.{little, knownHead}
-use Rattle.file_questions.proofs.HeadAndRows.{head-kind, head-length, length-known, at-least-four, head-holds}
+use Rattle.file_questions.proofs.HeadAndRecords.{head-kind, head-length, length-known, at-least-four, head-holds}
 use Rattle.file_questions.proofs.is_good_head.Statement.{statement}
 use Rattle.file_questions.proofs.is_good_head.Tie as tie
 
@@ -32,7 +32,7 @@ long c =
     omega (arith, s .pre, at-least-four (s .args .bytes .now) (known c))
 
 returns-3 : tie.Need-returns-3
-unfolding exponentInRange
+unfolding knownReading exponentInRange
 returns-3 c =
     let other = c .before .before .before in
     let bytes = other .before .before .before .before .before .args .bytes .now in

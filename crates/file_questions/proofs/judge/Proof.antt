@@ -1,7 +1,7 @@
--- `file_questions::judge` meets its contract. The loop's invariant: all before the row due is good, and the questions left are those from that row on. Assumes nothing.
+-- `file_questions::judge` meets its contract. The loop's invariant: all before the record due is good, and the questions left are those from that record on. Assumes nothing.
 use borrow.Author.Needs.{needs}
-use Prim.Native.Nat.{ℕ, _+_, _-_, _*_, _≤_}
-use mathlib.Core.Path.{_≡_, sym, _∙_}
+use Prim.Native.Nat.{ℕ, _+_, _-_, _≤_}
+use mathlib.Core.Path.{_≡_, _∙_}
 use mathlib.Core.Bool.{true}
 use mathlib.Core.List.{List}
 use lib.ListN.{length, drop}
@@ -9,20 +9,21 @@ use native.Mathlib.Omega.{arith}
 use mir.Syntax.{w64}
 use mir.Val.{toZ, ofZ}
 use mir.ValLaws.{toZ-ofZ}
+use Rattle.definitions.specs.Sheet.{sheetNumbers}
 use Rattle.definitions.specs.Questions.{question4}
-use Rattle.definitions.specs.File.{recordLength, wholeRecord, knownHead, goodHead, goodRow, fileQuestions}
+use Rattle.definitions.specs.File.{wholeRecord, knownHead, goodHead, goodRecord, fileQuestions}
 use Rattle.exact.proofs.Bools.{denied, granted}
 use Rattle.records.proofs.Records.{whole-room}
-use Rattle.file_questions.proofs.HeadAndRows.{at-least-four}
-use Rattle.file_questions.proofs.Judging.{Judged, head-read, head-cut, head-bad, row-cut, row-bad, bytes-after, at-end, room-short, room-enough, few-squared, refused-by, given-by, judged-head, judged-row}
+use Rattle.file_questions.proofs.HeadAndRecords.{at-least-four, head-stages}
+use Rattle.file_questions.proofs.Judging.{Judged, head-read, head-cut, head-bad, record-cut, record-bad, bytes-after, at-end, room-short, room-enough, refused-by, given-by, judged-head, judged-record}
 use Rattle.file_questions.proofs.judge.Statement.{statement}
 use Rattle.file_questions.proofs.judge.Tie as tie
 
 abbrev Inv-loop : tie.InvT-loop
-Inv-loop bytes room reading n e at₀ due₀ at due = Judged bytes room reading n at due
+Inv-loop bytes room reading n e rows at₀ due₀ at due = Judged bytes room reading n rows at due
 
 abbrev μ-loop : tie.MeasureT-loop
-μ-loop bytes room reading n e at₀ due₀ at due = n + 1 - due
+μ-loop bytes room reading n e rows at₀ due₀ at due = rows + 1 - due
 
 returns : tie.Need-returns Inv-loop μ-loop
 returns c =
@@ -63,37 +64,43 @@ unit-of-requires c κs =
     let at-head = c .before .before in
     (omega (arith, whole-room (at-head .before .before .before .before .before .args .bytes .now) 0 (whole-head (at-head .before .before))), known at-head)
 
--- The first row starts behind the head.
-first-row : (c : tie.After-field-at3 Inv-loop μ-loop) → recordLength (c .before .before .before .before .before .before .before .before .before .args .bytes .now) ≡ c .field-at3 .result
-unfolding recordLength
-first-row c = sym (c .field-at3 .ensures)
-
-add-at : tie.Need-add-at Inv-loop μ-loop
-add-at c =
-    let at-head = c .before .before .before .before in
+-- Few stages, and the first record behind the head.
+rows-requires : tie.Need-rows-requires Inv-loop μ-loop
+rows-requires c κs =
+    let at-head = c .before .before .before in
     let bytes = at-head .before .before .before .before .before .args .bytes .now in
-    omega (arith, first-row c, whole-room bytes 0 (whole-head (at-head .before .before)))
+    omega (arith, head-read bytes (good-head at-head) .most, head-stages bytes (known at-head), c .before .field-at2 .ensures)
+
+record-end-requires : tie.Need-record-end-requires Inv-loop μ-loop
+record-end-requires c κs =
+    let at-head = c .before .before .before .before in
+    whole-room (at-head .before .before .before .before .before .args .bytes .now) 0 (whole-head (at-head .before .before))
 
 loop-holds : tie.Need-loop-holds Inv-loop μ-loop
 loop-holds c =
-    let at-head = c .before .before .before .before in
+    let read = c .before .before .before .before in
+    let at-head = read .before in
     let a = at-head .before .before .before .before .before .args in
-    let read = c .before .before .before in
-    rw (first-row c) at
-    (judged-head (a .bytes .now) (a .room) (read .field-at .result) (c .before .before .field-at2 .result) (whole-head (at-head .before .before)) (good-head at-head) (read .field-at .ensures) (c .before .before .field-at2 .ensures))
+    judged-head (a .bytes .now) (a .room) (read .field-at .result) (c .before .before .before .field-at2 .result) (c .before .rows .result) (c .record-end .result) (whole-head (at-head .before .before)) (good-head at-head) (read .field-at .ensures) (c .before .before .before .field-at2 .ensures) (c .before .rows .ensures) (c .record-end .ensures)
 
 -- The file and the room, and the questions left, seen from the loop.
 abbrev bytes-of : tie.At-loop Inv-loop μ-loop → List ℕ
-bytes-of c = c .before .before .before .before .before .before .before .before .before .before .args .bytes .now
+bytes-of c = c .before .before .before .before .before .before .before .before .before .before .before .args .bytes .now
 
 abbrev room-of : tie.At-loop Inv-loop μ-loop → ℕ
-room-of c = c .before .before .before .before .before .before .before .before .before .before .args .room
+room-of c = c .before .before .before .before .before .before .before .before .before .before .before .args .room
 
 abbrev reading-of : tie.At-loop Inv-loop μ-loop → ℕ
-reading-of c = c .before .before .before .before .field-at .result
+reading-of c = c .before .before .before .before .before .field-at .result
 
 abbrev stages-of : tie.At-loop Inv-loop μ-loop → ℕ
-stages-of c = c .before .before .before .field-at2 .result
+stages-of c = c .before .before .before .before .field-at2 .result
+
+abbrev rows-of : tie.At-loop Inv-loop μ-loop → ℕ
+rows-of c = c .before .before .rows .result
+
+abbrev places-of : tie.At-loop Inv-loop μ-loop → ℕ
+places-of c = sheetNumbers (reading-of c) (stages-of c)
 
 returns-3 : tie.Need-returns-3 Inv-loop μ-loop
 returns-3 c =
@@ -101,65 +108,71 @@ returns-3 c =
     let test = c .before .before .is-whole2 in
     let cut = denied (test .result) (wholeRecord (drop (l .loop .at) (bytes-of l))) (test .ensures) (c .before .if3 .taken) in
     refused-by (bytes-of l) (room-of l) 11 (l .loop .due) (c .refused3 .result) (c .refused3 .ensures)
-    (l .loop .inv .left ∙ row-cut (bytes-of l) (room-of l) (stages-of l) (l .loop .at) (l .loop .due) (c .before .before .before .loop-test .taken) cut)
+    (l .loop .inv .left ∙ record-cut (bytes-of l) (room-of l) (stages-of l) (rows-of l) (places-of l) (l .loop .at) (l .loop .due) (c .before .before .before .loop-test .taken) cut)
 
-whole-row : (c : tie.Else3 Inv-loop μ-loop) → wholeRecord (drop (c .before .before .before .loop .at) (bytes-of (c .before .before .before))) ≡ true
-whole-row c =
+whole-record : (c : tie.Else3 Inv-loop μ-loop) → wholeRecord (drop (c .before .before .before .loop .at) (bytes-of (c .before .before .before))) ≡ true
+whole-record c =
     let l = c .before .before .before in
     granted (c .before .is-whole2 .result) (wholeRecord (drop (l .loop .at) (bytes-of l))) (c .before .is-whole2 .ensures) (c .if3 .left)
 
-is-good-row-requires : tie.Need-is-good-row-requires Inv-loop μ-loop
-is-good-row-requires c κs =
+is-good-record-requires : tie.Need-is-good-record-requires Inv-loop μ-loop
+is-good-record-requires c κs =
     let l = c .before .before .before in
-    (whole-room (bytes-of l) (l .loop .at) (whole-row c), l .loop .inv .few)
+    (whole-room (bytes-of l) (l .loop .at) (whole-record c), l .loop .inv .few)
 
 returns-4 : tie.Need-returns-4 Inv-loop μ-loop
 returns-4 c =
-    let at-row = c .before .before .before in
-    let l = at-row .before .before .before in
-    let test = c .before .before .is-good-row in
-    let bad = denied (test .result) (goodRow (stages-of l) (l .loop .due) (drop (l .loop .at) (bytes-of l))) (test .ensures) (c .before .if4 .taken) in
+    let at-record = c .before .before .before in
+    let l = at-record .before .before .before in
+    let test = c .before .before .is-good-record in
+    let bad = denied (test .result) (goodRecord (stages-of l) (l .loop .due) (drop (l .loop .at) (bytes-of l))) (test .ensures) (c .before .if4 .taken) in
     refused-by (bytes-of l) (room-of l) 13 (l .loop .due) (c .refused4 .result) (c .refused4 .ensures)
-    (l .loop .inv .left ∙ row-bad (bytes-of l) (room-of l) (stages-of l) (l .loop .at) (l .loop .due) (at-row .before .before .loop-test .taken) (whole-row at-row) bad)
+    (l .loop .inv .left ∙ record-bad (bytes-of l) (room-of l) (stages-of l) (rows-of l) (places-of l) (l .loop .at) (l .loop .due) (at-record .before .before .loop-test .taken) (whole-record at-record) bad)
+
+record-end-requires-2 : tie.Need-record-end-requires-2 Inv-loop μ-loop
+record-end-requires-2 c κs =
+    let at-record = c .before .before in
+    let l = at-record .before .before .before in
+    whole-room (bytes-of l) (l .loop .at) (whole-record at-record)
 
 loop-again : tie.Need-loop-again Inv-loop μ-loop
 loop-again c =
-    let at-row = c .before .before in
-    let l = at-row .before .before .before in
-    let test = c .before .is-good-row in
-    let good = granted (test .result) (goodRow (stages-of l) (l .loop .due) (drop (l .loop .at) (bytes-of l))) (test .ensures) (c .if4 .left) in
-    judged-row (bytes-of l) (room-of l) (reading-of l) (stages-of l) (l .loop .at) (l .loop .due) (l .loop .inv) (at-row .before .before .loop-test .taken) (whole-row at-row) good
-
-mul-places : tie.Need-mul-places Inv-loop μ-loop
-mul-places c = omega (arith, few-squared (stages-of (c .before)) (c .before .loop .inv .few))
+    let at-record = c .before .before .before in
+    let l = at-record .before .before .before in
+    let test = c .before .before .is-good-record in
+    let good = granted (test .result) (goodRecord (stages-of l) (l .loop .due) (drop (l .loop .at) (bytes-of l))) (test .ensures) (c .before .if4 .left) in
+    rw (c .record-end2 .ensures)
+    (judged-record (bytes-of l) (room-of l) (reading-of l) (stages-of l) (rows-of l) (l .loop .at) (l .loop .due) (l .loop .inv) (at-record .before .before .loop-test .taken) (whole-record at-record) good)
 
 returns-5 : tie.Need-returns-5 Inv-loop μ-loop
 returns-5 c =
-    let l = c .before .before .before in
+    let done = c .before .before .before in
+    let l = done .before in
     refused-by (bytes-of l) (room-of l) 14 0 (c .refused5 .result) (c .refused5 .ensures)
-    (l .loop .inv .left ∙ bytes-after (bytes-of l) (room-of l) (stages-of l) (l .loop .at) (l .loop .due) (c .before .before .loop-test .left) (l .loop .inv .inside) (c .before .if5 .taken))
+    (l .loop .inv .left ∙ bytes-after (bytes-of l) (room-of l) (stages-of l) (rows-of l) (places-of l) (l .loop .at) (l .loop .due) (done .loop-test .left) (l .loop .inv .inside) (c .before .if5 .taken))
 
--- After the last row only question 4 is left.
-rows-done : (c : tie.Else5 Inv-loop μ-loop) → fileQuestions (bytes-of (c .before .before)) (room-of (c .before .before)) ≡ question4 (stages-of (c .before .before) * stages-of (c .before .before)) (room-of (c .before .before))
-rows-done c =
-    let l = c .before .before in
-    l .loop .inv .left ∙ at-end (bytes-of l) (room-of l) (stages-of l) (l .loop .at) (l .loop .due) (c .before .loop-test .left) (c .if5 .left)
+-- After the last record only question 4 is left, of as many places as the code counted.
+records-done : (c : tie.Else5 Inv-loop μ-loop) → let l = c .before .before .before in fileQuestions (bytes-of l) (room-of l) ≡ question4 (c .before .numbers .result) (room-of l)
+records-done c =
+    let l = c .before .before .before in
+    rw (c .before .numbers .ensures)
+    (l .loop .inv .left ∙ at-end (bytes-of l) (room-of l) (stages-of l) (rows-of l) (places-of l) (l .loop .at) (l .loop .due) (c .before .before .loop-test .left) (c .if5 .left))
 
 returns-6 : tie.Need-returns-6 Inv-loop μ-loop
 returns-6 c =
     let at-test = c .before .before in
-    let l = at-test .before .before in
+    let l = at-test .before .before .before in
     refused-by (bytes-of l) (room-of l) 4 0 (c .refused6 .result) (c .refused6 .ensures)
-    (rows-done at-test ∙ room-short (stages-of l) (room-of l) (c .before .if6 .taken))
+    (records-done at-test ∙ room-short _ (room-of l) (c .before .if6 .taken))
 
 -- The unit is handed over by its bits, which mean it.
 returns-7 : tie.Need-returns-7 Inv-loop μ-loop
 returns-7 c =
     let at-test = c .before in
-    let l = at-test .before .before in
-    let unit = l .before .before .unit-of in
+    let l = at-test .before .before .before in
+    let unit = l .before .before .before .unit-of in
     given-by (bytes-of l) (room-of l) (reading-of l) (stages-of l) (toZ w64 (ofZ w64 (unit .result))) (l .loop .inv .kind) (l .loop .inv .stages) (toZ-ofZ w64 (unit .result) (record { sfits = unit .ok }) ∙ unit .ensures)
-    (rows-done at-test ∙ room-enough (stages-of l) (room-of l) (c .if6 .left))
+    (records-done at-test ∙ room-enough _ (room-of l) (c .if6 .left))
 
 pub judge-spec : {M : Type 1} → statement M
 judge-spec =
@@ -176,22 +189,20 @@ judge-spec =
     (λ c κs. omega (arith, head-held c))
     (λ c κs. omega (arith, head-held (c .before)))
     unit-of-requires
-    (λ c κs. omega (arith, head-held (c .before .before .before)))
-    add-at
+    rows-requires
+    record-end-requires
     loop-holds
     (λ c κs. search needs)
     (λ c κs. search needs)
     returns-3
-    is-good-row-requires
+    is-good-record-requires
     (λ c κs. search needs)
     returns-4
-    (λ c. omega arith)
-    (λ c. omega arith)
-    (λ c. omega arith)
+    record-end-requires-2
     (λ c. omega arith)
     (λ c. omega arith)
     loop-again
-    mul-places
+    (λ c κs. search needs)
     (λ c κs. search needs)
     returns-5
     (λ c κs. search needs)

@@ -4,7 +4,7 @@ use native.Mathlib.Omega.{arith}
 use mir.Syntax.{w64}
 use mir.ValLaws.{toZ-ofZ}
 use Rattle.definitions.specs.File.{recordLength}
-use Rattle.file_questions.proofs.HeadAndRows.{old-unit, new-unit, not-four}
+use Rattle.file_questions.proofs.HeadAndRecords.{old-unit, new-unit, not-four}
 use Rattle.file_questions.proofs.unit_of.Statement.{statement}
 use Rattle.file_questions.proofs.unit_of.Tie as tie
 

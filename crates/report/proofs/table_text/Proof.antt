@@ -4,7 +4,7 @@ use mathlib.Core.Path.{refl}
 use native.Mathlib.Omega.{arith}
 use mir.Syntax.{w64}
 use mir.ValLaws.{toZ-ofZ}
-use Rattle.file_questions.proofs.Judging.{few-squared}
+use Rattle.counts.proofs.Counts.{square-small}
 use Rattle.report.proofs.Reporting.{same-text, served-text}
 use Rattle.report.proofs.table_text.Statement.{statement}
 use Rattle.report.proofs.table_text.Tie as tie
@@ -12,7 +12,7 @@ use Rattle.report.proofs.table_text.Tie as tie
 answer-text-requires : tie.Need-answer-text-requires
 answer-text-requires c κs =
     let start = c .before .before .before .before .before .before .before in
-    (start .pre .0, omega (arith, few-squared (start .args .n) (start .pre .0)), start .pre .1)
+    (start .pre .0, omega (arith, square-small (start .pre .0)), start .pre .1)
 
 -- e is handed over by its bits, which mean e.
 returns : tie.Need-returns

@@ -13,7 +13,7 @@ use Rattle.saving.proofs.put_numbers.Tie as tie
 to-words-requires : tie.Need-to-words-requires
 to-words-requires c κs =
     let start = c .before .before .before in
-    short (start .pre .0) (start .pre .1)
+    short (start .args .reading) (start .args .n) (start .pre .0) (start .pre .1)
 
 -- e is handed over by its bits, which mean e.
 put-sheet-requires : tie.Need-put-sheet-requires
@@ -35,7 +35,7 @@ put-numbers-spec =
     (tie.spec
     (λ c. search needs)
     to-words-requires
-    (λ c. let start = c .before .before .before .before .before in omega (arith, short (start .pre .0) (start .pre .1)))
+    (λ c. let start = c .before .before .before .before .before in omega (arith, short (start .args .reading) (start .args .n) (start .pre .0) (start .pre .1)))
     (λ c. sym (ap length (words-taken (c .before .before .before .before .before .before .args .sheet .now) _ (c .before .before .to-words .ensures)) ∙ length-sheet-words _))
     put-sheet-requires
     (λ c. search needs)

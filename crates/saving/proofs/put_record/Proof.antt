@@ -1,4 +1,4 @@
--- `saving::put_row` meets its contract: three writers in a row. Assumes nothing.
+-- `saving::put_record` meets its contract: three writers in a row. Assumes nothing.
 use borrow.Author.Needs.{needs}
 use mathlib.Core.List.{List, _++_}
 use Prim.Native.Nat.{ℕ, _+_, _*_}
@@ -6,22 +6,22 @@ use lib.ListN.{length}
 use Rattle.definitions.specs.Saving.{littleBytes, wordBytes}
 use Rattle.buffer.specs.Pasted.{Room}
 use Rattle.buffer.proofs.Pasting.{room3-1, room3-2, room3-3, written-3}
-use Rattle.saving.proofs.FileBytes.{row-pieces}
-use Rattle.saving.proofs.put_row.Statement.{statement}
-use Rattle.saving.proofs.put_row.Tie as tie
+use Rattle.saving.proofs.FileBytes.{record-pieces}
+use Rattle.saving.proofs.put_record.Statement.{statement}
+use Rattle.saving.proofs.put_record.Tie as tie
 
 -- The three pieces, and room for all.
 abbrev header : tie.Start → List ℕ
-header c = littleBytes 4 (2 + 8 * length (c .args .words .now)) ++ littleBytes 2 2
+header c = littleBytes 4 (c .args .width + 8 * length (c .args .words .now)) ++ littleBytes 2 (c .args .kind)
 
 abbrev number : tie.Start → List ℕ
-number c = littleBytes 2 (c .args .number)
+number c = littleBytes (c .args .width) (c .args .number)
 
 abbrev words : tie.Start → List ℕ
 words c = wordBytes (c .args .words .now)
 
 room : (c : tie.Start) → Room (header c ++ number c ++ words c) (c .args .at) (c .args .out .now)
-room c = rw (row-pieces (c .args .number) (c .args .words .now)) at (c .pre)
+room c = rw (record-pieces (c .args .kind) (c .args .number) (c .args .width) (c .args .words .now)) at (c .pre .1)
 
 put-header-requires : tie.Need-put-header-requires
 put-header-requires c κs =
@@ -47,11 +47,11 @@ returns c =
     let second = third .before .before .before .before in
     let first = second .before .before .before .before in
     let start = first .before .before .before .before in
-    rw (row-pieces (start .args .number) (start .args .words .now))
+    rw (record-pieces (start .args .kind) (start .args .number) (start .args .width) (start .args .words .now))
     (written-3 (header start) (number start) (words start) (room start) (first .put-header .ensures) (second .put-number .ensures) (third .put-words .ensures))
 
-pub put-row-spec : {M : Type 1} → statement M
-put-row-spec =
+pub put-record-spec : {M : Type 1} → statement M
+put-record-spec =
     tie.close
     (tie.spec
     (λ c. search needs)

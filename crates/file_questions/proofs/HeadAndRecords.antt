@@ -1,34 +1,39 @@
--- Questions 12 and 13 in terms of the numbers that are read at the places of the head and of a row.
-use Prim.Native.Nat.{ℕ, _+_, _*_, _≤_}
+-- Questions 12 and 13 in terms of the numbers that are read at the places of the head and of a record.
+use Prim.Native.Nat.{ℕ, _+_, _*_, _≤_, _<_}
 use mathlib.Core.Bool.{true, false, not, _&&_, _||_}
 use mathlib.Core.List.{List}
 use mathlib.Core.Logic.{⊎-elim}
-use mathlib.Core.Path.{_≡_}
+use mathlib.Core.Path.{_≡_, sym, _∙_}
 use native.Mathlib.Omega.{arith}
-use borrow.Author.Tests.{eq-eqb, ne-eqb, eqb-true, not-true, not-false}
+use borrow.Author.Tests.{le-leb, lt-leb, eq-eqb, ne-eqb, eqb-true, not-true, not-false}
 use lib.Dec.{leb, eqb, eqb→eq}
 use lib.IntN.{ℤ, pos}
 use lib.ListN.{drop}
-use Rattle.exact.proofs.Bools.{holds, or-cases}
-use Rattle.definitions.specs.Questions.{exponentInRange}
-use Rattle.definitions.specs.File.{little, signed, recordLength, recordKind, headLength, oldHeadLength, headReading, headStages, headUnit, knownHead, goodHead, goodRow}
+use Rattle.exact.proofs.Bools.{holds, and-second, or-cases}
+use Rattle.definitions.specs.Questions.{knownReading, exponentInRange}
+use Rattle.definitions.specs.File.{little, signed, recordLength, recordKind, headLength, oldHeadLength, headReading, headStages, headUnit, knownHead, goodHead, goodRow, goodWeights, goodRecord}
 use Rattle.records.proofs.Records.{kind-at, payload-at}
 
-module _ (bytes : List ℕ) (at : ℕ) where
-  -- 13, as far as the numbers were read.
-  pub row-kind : (n due kind : ℕ) → kind ≡ little 2 (drop (at + 4) bytes) → (kind ≡ 2 → ⊥) → false ≡ goodRow n due (drop at bytes)
-  unfolding goodRow
-  row-kind n due kind e h = rw (kind-at bytes at, ← e, ne-eqb kind 2 h)
+-- 13, of the record that starts at `at`, by its kind and its length.
+module _ (bytes : List ℕ) (at n due kind size : ℕ) (is : kind ≡ little 2 (drop (at + 4) bytes)) (long : size ≡ recordLength (drop at bytes)) where
+  pub weights-tested : n < due → (eqb kind 3 && eqb size (8 * n)) ≡ goodRecord n due (drop at bytes)
+  unfolding goodRecord goodWeights
+  weights-tested h = rw (lt-leb due n h, kind-at bytes at, is, long)
 
-  pub row-length : (n due size : ℕ) → little 2 (drop (at + 4) bytes) ≡ 2 → size ≡ little 4 (drop at bytes) → (size ≡ 2 + 8 * n → ⊥) → false ≡ goodRow n due (drop at bytes)
-  unfolding goodRow recordLength
-  row-length n due size k e h = rw (kind-at bytes at, eq-eqb (little 2 (drop (at + 4) bytes)) 2 k, ← e, ne-eqb size (2 + 8 * n) h)
+  module _ (h : due ≤ n) where
+    pub not-a-row : not (eqb kind 2 && eqb size (2 + 8 * n)) ≡ true → false ≡ goodRecord n due (drop at bytes)
+    unfolding goodRecord goodRow
+    not-a-row t = rw (le-leb due n h, kind-at bytes at, ← is, ← long, not-true (eqb kind 2 && eqb size (2 + 8 * n)) t)
 
-  pub row-number : (n due number : ℕ) → little 2 (drop (at + 4) bytes) ≡ 2 → recordLength (drop at bytes) ≡ 2 + 8 * n → number ≡ little 2 (drop (at + 6) bytes) → eqb number due ≡ goodRow n due (drop at bytes)
-  unfolding goodRow
-  row-number n due number k l e =
-      let held : 0 + 2 ≤ recordLength (drop at bytes) = omega arith in
-      rw (kind-at bytes at, eq-eqb (little 2 (drop (at + 4) bytes)) 2 k, eq-eqb (recordLength (drop at bytes)) (2 + 8 * n) l, payload-at bytes at 0 2 held, e)
+    module _ (t : not (eqb kind 2 && eqb size (2 + 8 * n)) ≡ false) where
+      pub row-size : recordLength (drop at bytes) ≡ 2 + 8 * n
+      row-size = sym long ∙ eqb-true size (2 + 8 * n) (and-second (eqb kind 2) (eqb size (2 + 8 * n)) (not-false (eqb kind 2 && eqb size (2 + 8 * n)) t))
+
+      pub row-tested : (number : ℕ) → number ≡ little 2 (drop (at + 6) bytes) → eqb number due ≡ goodRecord n due (drop at bytes)
+      unfolding goodRecord goodRow
+      row-tested number e =
+          let held : 0 + 2 ≤ recordLength (drop at bytes) = omega (arith, row-size) in
+          rw (le-leb due n h, kind-at bytes at, ← is, ← long, not-false (eqb kind 2 && eqb size (2 + 8 * n)) t, payload-at bytes at 0 2 held, e)
 
 -- 12, as far as the numbers were read.
 module _ (bytes : List ℕ) where
@@ -78,6 +83,6 @@ module _ (bytes : List ℕ) where
         rw (ne-eqb (recordLength bytes) 4 other, payload-at bytes 0 4 2 held)
 
     pub head-holds : (reading n : ℕ) (e : ℤ) → little 2 (drop 4 bytes) ≡ 1 → reading ≡ little 2 (drop 6 bytes) → n ≡ little 2 (drop 8 bytes) → e ≡ headUnit bytes
-        → ((eqb reading 1 || eqb reading 2) && leb 1 n && leb n 32 && exponentInRange e) ≡ goodHead bytes
+        → (knownReading reading && leb 1 n && leb n 32 && exponentInRange e) ≡ goodHead bytes
     unfolding goodHead recordKind
     head-holds reading n e k r s u = rw (k, known, head-reading, head-stages, r, s, u)
