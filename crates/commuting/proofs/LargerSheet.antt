@@ -22,7 +22,8 @@ use Rattle.rounding.proofs.TimesPower.{times-is-zero, size-scaled}
 use Rattle.rounding.proofs.Zeros.{IsSize}
 use Rattle.steps.proofs.All.{all-below}
 use Rattle.steps.proofs.LiveStages.{zeros, idle-is}
-use Rattle.steps.proofs.QuestionLaws.{then-first, number-finite, stage-rows}
+use Rattle.steps.proofs.QuestionLaws.{then-first, number-finite}
+use Rattle.counts.proofs.Counts.{stage-rows}
 use Rattle.shape.proofs.Square.{inside}
 use Rattle.commuting.proofs.Moves.{same-behind}
 use Rattle.rates_accuracy.proofs.Input.{size-is, diagonal-is}

@@ -41,8 +41,24 @@ module _ (n : ℕ) where
 pub bytes-small : {n : ℕ} → n ≤ 32 → n * (8 + 8 * n) ≤ 8448
 bytes-small {n} h = omega (arith, square-small h)
 
--- At most one row more than there are stages, and at most 1,056 numbers.
+-- A sheet's numbers are whole rows of n, the first n of them the stages' own; there is at most one row more, and at most 1,056 numbers.
 module _ (reading n : ℕ) where
+  pub rows-of-numbers : sheetNumbers reading n ≡ sheetRows reading n * n
+  unfolding sheetNumbers sheetRows
+  rows-of-numbers = go (eqb reading 3)
+    where
+      go : (weights : Bool) → cond weights (n * n + n) (n * n) ≡ cond weights (suc n) n * n
+      go true = omega arith
+      go false = refl
+
+  pub stage-rows : n ≤ sheetRows reading n
+  unfolding sheetRows
+  stage-rows = go (eqb reading 3)
+    where
+      go : (weights : Bool) → n ≤ cond weights (suc n) n
+      go true = omega arith
+      go false = omega arith
+
   pub rows-few : sheetRows reading n ≤ n + 1
   unfolding sheetRows
   rows-few = go (eqb reading 3)

@@ -16,8 +16,8 @@ use lib.Seq.{drop-drop, getD-append-add}
 use Rattle.definitions.specs.Sheet.{sheetRows, sheetNumbers}
 use Rattle.definitions.specs.Questions.{pass, ask, _then_, question1, question2, question4}
 use Rattle.definitions.specs.File.{little, recordLength, payload, rest, wholeRecord, headReading, headStages, goodHead, goodRecord, recordQuestions, fileQuestions, numberBytes, words, recordWords, fileWords, fileNumbers}
-use Rattle.steps.proofs.QuestionLaws.{then-first, then-next, ask-yes, rows-of-numbers}
-use Rattle.counts.proofs.Counts.{rows-few}
+use Rattle.steps.proofs.QuestionLaws.{then-first, then-next, ask-yes}
+use Rattle.counts.proofs.Counts.{rows-few, rows-of-numbers}
 use Rattle.payload.specs.SheetFile.{SheetFile}
 use Rattle.records.proofs.Records.{payload-at, whole-room}
 use Rattle.records.proofs.RecordDue.{widthDue, row-width, weights-width, numbers-due, RecordRead, record-read}

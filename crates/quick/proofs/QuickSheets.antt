@@ -15,7 +15,8 @@ use borrow.Rule.Slice.PartMut.{midOf, mid-len}
 use Rattle.exact.proofs.Cases.{by-equal, by-order}
 use Rattle.definitions.specs.Sheet.{sheetRows, place}
 use Rattle.definitions.specs.Questions.{pass, placeQuestions}
-use Rattle.steps.proofs.QuestionLaws.{rows-pass, rows-few}
+use Rattle.steps.proofs.QuestionLaws.{rows-pass}
+use Rattle.counts.proofs.Counts.{rows-few}
 use Rattle.shape.specs.Square.{Square, WholeSheet}
 use Rattle.shape.proofs.Square.{place-inside, row-inside}
 use Rattle.places.specs.PlaceQuestions.{passes, askPlaces}

@@ -24,7 +24,8 @@ use Rattle.rounding.proofs.Order.{lt-units}
 use Rattle.rounding.proofs.Reversed.{le-not-above}
 use Rattle.rounding.proofs.Zeros.{IsSize, plus-zero, size-of-negative, size-of-positive}
 use Rattle.steps.proofs.Sizes.{size-at, diagonal-at}
-use Rattle.steps.proofs.QuestionLaws.{then-first, then-next, number-finite, number-sign, stage-rows}
+use Rattle.steps.proofs.QuestionLaws.{then-first, then-next, number-finite, number-sign}
+use Rattle.counts.proofs.Counts.{stage-rows}
 use Rattle.rates_accuracy.specs.LeavingRatesAccuracy.{GoodWeight, GoodWeights}
 
 less-or-equal : (x y : Float) → T (lt x y) → T (le x y)

@@ -19,8 +19,8 @@ use Rattle.definitions.specs.Saving.{littleBytes, recordBytes, complement, head
 use Rattle.records.proofs.LittleBytes.{length-little}
 use Rattle.records.proofs.Signed.{signed-complement, complement-small}
 use Rattle.records.proofs.RecordDue.{kindDue, numberDue, widthDue, width-small, kind-narrow, number-narrow, bytes-due, numbers-due, read-good}
-use Rattle.counts.proofs.Counts.{rows-few}
-use Rattle.steps.proofs.QuestionLaws.{exponent-small, rows-of-numbers}
+use Rattle.counts.proofs.Counts.{rows-few, rows-of-numbers}
+use Rattle.steps.proofs.QuestionLaws.{exponent-small}
 use Rattle.saving.proofs.FileBytes.{length-words}
 use Rattle.round_trip.specs.RoundTrip.{Below}
 use Rattle.round_trip.proofs.Bytes.{below-first, below-rest, below-drop, below-take, number-back}

@@ -13,8 +13,7 @@ use lib.Seq.{take-suc, drop-drop, length-take-le}
 use Rattle.definitions.specs.Sheet.{sheetRows, sheetNumbers}
 use Rattle.definitions.specs.File.{headLength, fileLength}
 use Rattle.definitions.specs.Saving.{littleBytes, recordBytes, complement, headBytes, wordBytes, rowBytes, weightBytes, bytesDue, recordsBytes, sheetFile}
-use Rattle.counts.proofs.Counts.{numbers-few}
-use Rattle.steps.proofs.QuestionLaws.{rows-of-numbers}
+use Rattle.counts.proofs.Counts.{rows-of-numbers, numbers-few}
 use Rattle.buffer.specs.Pasted.{Room, Written}
 use Rattle.buffer.proofs.Pasting.{written-nothing, room-first, room-next, written-next}
 use Rattle.records.proofs.LittleBytes.{length-little}

@@ -9,8 +9,8 @@ use lib.ListN.{length, getD}
 use lib.Ieee.{Float, nan}
 use lib.Ieee.Positive.{first-pos}
 use Rattle.definitions.specs.Sheet.{sheetRows, sheetNumbers, place}
-use Rattle.steps.proofs.QuestionLaws.{rows-of-numbers, stage-rows}
-use Rattle.counts.proofs.Counts.{square-small}
+use Rattle.counts.proofs.Counts as counts
+use Rattle.counts.proofs.Counts.{square-small, rows-of-numbers, stage-rows}
 use Rattle.shape.specs.Square.{Square, WholeSheet}
 
 -- Place (i, j) of m rows of n.
@@ -33,12 +33,7 @@ module _ {reading n : ℕ} {sheet : List Float} (s : WholeSheet reading n sheet)
   is-square = record { few = s .few; held = rw (s .held) own-numbers }
 
   pub numbers-few : length sheet ≤ 1056
-  unfolding sheetNumbers
-  numbers-few = rw (s .held) (go (eqb reading 3))
-    where
-      go : (weights : Bool) → cond weights (n * n + n) (n * n) ≤ 1056
-      go true = omega (arith, square-small (s .few), s .few)
-      go false = omega (arith, square-small (s .few))
+  numbers-few = rw (s .held) (counts.numbers-few reading n (s .few))
 
   pub row-inside : {i j : ℕ} → i < sheetRows reading n → j < n → i * n + j < length sheet
   row-inside hi hj = rw (s .held, rows-of-numbers reading n) (inside hi hj)

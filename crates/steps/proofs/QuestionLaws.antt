@@ -79,31 +79,6 @@ pub reading-is : (reading : ℕ) → question1 reading ≡ pass → Reading read
 unfolding question1
 reading-is reading e = known-is reading (ask-yes (knownReading reading) 1 0 0 e)
 
--- A sheet's numbers are whole rows of n, the first n of them the stages' own.
-pub rows-of-numbers : (reading n : ℕ) → sheetNumbers reading n ≡ sheetRows reading n * n
-unfolding sheetNumbers sheetRows
-rows-of-numbers reading n = go (eqb reading 3)
-  where
-    go : (weights : Bool) → cond weights (n * n + n) (n * n) ≡ cond weights (suc n) n * n
-    go true = omega arith
-    go false = refl
-
-pub stage-rows : (reading n : ℕ) → n ≤ sheetRows reading n
-unfolding sheetRows
-stage-rows reading n = go (eqb reading 3)
-  where
-    go : (weights : Bool) → n ≤ cond weights (suc n) n
-    go true = omega arith
-    go false = omega arith
-
-pub rows-few : (reading n : ℕ) → sheetRows reading n ≤ suc n
-unfolding sheetRows
-rows-few reading n = go (eqb reading 3)
-  where
-    go : (weights : Bool) → cond weights (suc n) n ≤ suc n
-    go true = omega arith
-    go false = omega arith
-
 -- Question 5, of one stage.
 pub is-stage : (k n : ℕ) → T (leb 1 k && leb k n) → (1 ≤ k) × (k ≤ n)
 is-stage k n t = (leb→le 1 k (and-l (leb 1 k) (leb k n) t), leb→le k n (and-r (leb 1 k) (leb k n) t))
