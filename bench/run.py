@@ -630,7 +630,7 @@ def move_edge_groups(rng: random.Random, count: int) -> list[Group]:
     while len(groups) < count:
         reading, n = rng.choice([1, 2]), rng.randint(1, 5)
         sheet = reference.sheet_to_move(rng, reading, n)
-        groups.append(Group(reading, n, [sheet] * 2, powers=[reference.random_power(rng, sheet) for _ in range(2)]))
+        groups.append(Group(reading, n, [sheet] * 2, powers=[reference.random_power(rng, n, sheet) for _ in range(2)]))
     return [without_matrices(group) for group in groups]
 
 

@@ -215,7 +215,7 @@ def some_stage(rng: random.Random, n: int) -> int:
     return rng.randint(1, min(max(n, 1), 32))
 
 
-def some_power(rng: random.Random, words: Sequence[int]) -> int:
+def some_power(rng: random.Random, n: int, words: Sequence[int]) -> int:
     """A k to move a sheet by: mostly in its range, and then often one that brings a number of the sheet to an end of
     the range of results or one power of two to either side of it; at times out of its range, also by far."""
     kind = rng.random()
@@ -223,7 +223,7 @@ def some_power(rng: random.Random, words: Sequence[int]) -> int:
         return rng.choice(POWERS_OUT_OF_RANGE)
     if kind < 0.12:
         return rng.choice([-512, -511, -10, 0, 10, 511, 512])
-    return reference.random_power(rng, [reference.number_of(word) for word in words])
+    return reference.random_power(rng, n, [reference.number_of(word) for word in words])
 
 
 def some_prices(rng: random.Random, sheet: Sheet) -> list[int]:
@@ -260,7 +260,7 @@ def some_file(rng: random.Random) -> bytes:
     else:
         reading = rng.choice([0, 1, 1, 2, 2, 2, 3]) if rng.random() < 0.3 else rng.choice([1, 2])
         words = [rng.choice([rng.getrandbits(64), 0x7ff0000000000001, 0xfff8000000000000]) for _ in range(n * n)]
-    data = head_of_file(rng, reading, n) + reference.make_rows(n, words)
+    data = head_of_file(rng, reading, n) + reference.make_records(reading, n, words)
     return data if rng.random() < 0.35 else damaged_file(rng, data, n)
 
 
@@ -368,7 +368,7 @@ def writer(name: str) -> Call:
     """One of the two writers of files."""
     def call(calls: Calls, rng: random.Random) -> Outcome:
         sheet = saved_sheet(rng)
-        needed = reference.file_length(min(sheet.n, 33))
+        needed = reference.file_length(sheet.reading, min(sheet.n, 33))
         kind = rng.random()
         room = (rng.choice([0, 9, needed - 1, rng.randrange(needed)]) if kind < 0.06
                 else needed + (0 if kind < 0.5 else rng.choice([1, 2, 7, 40, 9000])))
@@ -379,7 +379,7 @@ def writer(name: str) -> Call:
 def call_move(calls: Calls, rng: random.Random) -> Outcome:
     """A sheet moved to another time unit."""
     sheet = sheet_to_move(rng)
-    k, room = some_power(rng, sheet.words), some_room(rng, min(sheet.n, 33) ** 2)
+    k, room = some_power(rng, sheet.n, sheet.words), some_room(rng, min(sheet.n, 33) ** 2)
     return Outcome(calls.move(sheet.reading, sheet.n, unit_to_move(rng, k), sheet.words, k, room)[0])
 
 
@@ -491,8 +491,8 @@ def try_two_moves(calls: Calls, rng: random.Random, seen: Counter[str]) -> None:
     the same e."""
     reading, n = rng.choice([1, 2]), some_n(rng, 6)
     numbers = reference.sheet_to_move(rng, reading, n)
-    a = reference.random_power(rng, numbers)
-    b = rng.choice([-a, reference.random_power(rng, numbers) - a, rng.randint(-FURTHEST_POWER, FURTHEST_POWER)])
+    a = reference.random_power(rng, n, numbers)
+    b = rng.choice([-a, reference.random_power(rng, n, numbers) - a, rng.randint(-FURTHEST_POWER, FURTHEST_POWER)])
     sheet, e = [bits_of(x) for x in numbers], unit_from(rng, a, b)
     if calls.move(reading, n, e, sheet, a, n * n)[0]:
         seen["the first refused"] += 1

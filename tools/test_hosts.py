@@ -679,7 +679,7 @@ class MoveTest(HostTest):
         for n in [*range(1, 33), *[1, 2, 3, 4, 5, 6, 7] * 20]:
             for reading in (1, 2):
                 sheet = reference.sheet_to_move(self.rng, reading, n)
-                k = reference.random_power(self.rng, sheet)
+                k = reference.random_power(self.rng, n, sheet)
                 answers.append(self.move(reading, n, sheet, k, n * n + n))
                 moved = reference.move(reading, n, reference.IN_SECONDS, sheet, k, n * n)
                 if isinstance(moved, Moved):
@@ -792,7 +792,7 @@ class UnitTest(HostTest):
 
     def test_heads(self) -> None:
         """Heads of every length up to 9, and every 17th word in the place of e."""
-        rows = reference.make_rows(1, [bits_of(4.0)])
+        rows = reference.make_records(1, 1, [bits_of(4.0)])
         accepted = [length for length in range(10)
                     if self.file(reference.record(1, b"\1\0\1\0\0\0\0\0\0"[:length]) + rows, 1) == (0, 0, 0)]
         self.assertEqual(accepted, [4, 6])
@@ -804,7 +804,7 @@ class UnitTest(HostTest):
         """A file that says its unit is saved as its bytes; one that does not, with e = 0 in its head."""
         for data in good_files(self.rng):
             loaded = reference.load(data, PLACES)
-            size = reference.file_length(loaded.n)
+            size = reference.file_length(loaded.reading, loaded.n)
             with_unit = data if len(data) == size else struct.pack("<I", 6) + data[4:10] + b"\0\0" + data[10:]
             saved = reference.save(loaded.reading, loaded.n, loaded.e, loaded.words, size)
             self.assertEqual(saved, Saved(with_unit))

@@ -42,7 +42,7 @@ sys.dont_write_bytecode = True
 from reference import (GREATEST_INT64, HEAD, IN_SECONDS, INF, LARGEST, LEAST_INT64, LIMIT, NAN, P_SHEET,  # noqa: E402
                        POWERS_OUT_OF_RANGE, SHEET_ROW, Column, Loaded, Moved, Prices, Refused, Saved, Style, Table,
                        accuracy, among_idle, bits_of, column, column_accuracy, divided, dwell, edge_pair, entry,
-                       file_length, load, make_file, make_head, make_rows, make_short_file, make_short_file_words,
+                       file_length, load, make_file, make_head, make_records, make_short_file, make_short_file_words,
                        make_short_head, move, number_of, price_accuracy, price_edge_pair, random_prices, random_sheet,
                        random_size, random_style, range_facts, record, request_prices, save, sheet_parts,
                        sheet_to_move, table, table_of_stream, uneven_sheet, word_of)
@@ -334,7 +334,7 @@ def saves(rng: random.Random) -> Iterator[Case]:
     for n in range(1, LIMIT + 1):
         words = [rng.choice([rng.getrandbits(64), 0x7ff0000000000001 + rng.getrandbits(40), 0xfff8000000000000, 1 << 63, 0])
                  for _ in range(n * n)]
-        as_words, as_numbers = save_cases(1 + n % 2, n, UNITS[n % len(UNITS)], words, file_length(n) + n % 3)
+        as_words, as_numbers = save_cases(1 + n % 2, n, UNITS[n % len(UNITS)], words, file_length(1 + n % 2, n) + n % 3)
         yield as_words
         if n <= 12 or n == LIMIT:
             yield as_numbers
@@ -767,7 +767,7 @@ def damaged(data: bytes, n: int, room: int) -> list[Case]:
 def heads() -> Iterator[Case]:
     """Files of one stage with heads of every length up to 8, and with many e: at both ends of its range and past them,
     and words that are in it only by their low byte, or without their sign."""
-    rows = make_rows(1, [bits_of(2.0)])
+    rows = make_records(1, 1, [bits_of(2.0)])
     for length in range(9):
         yield file_case(record(HEAD, b"\1\0\1\0\0\0\0\0"[:length]) + rows, 2)
     for e in (512, -512, 511, -511, 513, -513, 255, -255, 256, -256, 768, -768, 32767, -32768, 0x0a00, -0x0a00, 1, -1):
