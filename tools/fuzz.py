@@ -280,16 +280,10 @@ def head_of_file(rng: random.Random, reading: int, n: int) -> bytes:
     return reference.make_head(reading, n, unit)
 
 
-def records_of(data: bytes) -> list[bytes]:
-    """The records of a whole file."""
-    found = reference.read_record(data, 0)
-    return [data[:found[2]], *records_of(data[found[2]:])] if found else []
-
-
 def damaged_file(rng: random.Random, data: bytes) -> bytes:
     """A file that is cut, longer, has a field changed, or has records that are exchanged, missing, twice there or
     weights that are not due."""
-    records, kind = records_of(data), rng.randrange(6)
+    records, kind = reference.records_of(data), rng.randrange(6)
     if kind == 0:
         return data[:rng.randrange(len(data))]
     if kind == 1:

@@ -670,6 +670,12 @@ def read_record(data: bytes, at: int) -> Optional[tuple[int, bytes, int]]:
     return None if end > len(data) else (kind, data[start:end], end)
 
 
+def records_of(data: bytes) -> list[bytes]:
+    """The records of a file up to the first that misses bytes."""
+    found = read_record(data, 0)
+    return [data[:found[2]], *records_of(data[found[2]:])] if found else []
+
+
 def read_head(payload: bytes) -> Optional[tuple[int, int, int]]:
     """Reading, n and e of a head's payload; None where it is no head's (12)."""
     if len(payload) == struct.calcsize(SHORT_HEAD_PAYLOAD):
