@@ -20,6 +20,12 @@ def dense(rng: random.Random, n: int, diagonal: float, spread: float = 0.0) -> S
     return [diagonal * size() if i == j else -size() for i in range(n) for j in range(n)]
 
 
+def with_weights(rng: random.Random, n: int, share: float, spread: float = 0.0) -> Sheet:
+    """Reading 3: a dense sheet whose weighted row sums are `share` times such a number, and weights from 0.5 to 2,
+    times 10 to a power up to `spread` either way."""
+    return dense(rng, n, share) + [rng.uniform(0.5, 2.0) * 10.0 ** rng.uniform(-spread, spread) for _ in range(n)]
+
+
 def with_stages_not_kept(rng: random.Random, n: int, margin: float, larger: float) -> Sheet:
     """Reading 2: every second stage from the first has no move (h is 0), and moves of later stages to it
     are `larger` times the others, as in source document 000, Table 2."""
