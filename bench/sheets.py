@@ -14,7 +14,7 @@ Sheet = list[float]
 
 def dense(rng: random.Random, n: int, diagonal: float, spread: float = 0.0) -> Sheet:
     """Every move there, sizes from 0.5 to 2, times 10 to a power up to `spread` either way; the diagonal
-    parameter is `diagonal` times such a number.  Good for both readings."""
+    parameter is `diagonal` times such a number.  Good for readings 1 and 2."""
     def size() -> float:
         return rng.uniform(0.5, 2.0) * 10.0 ** rng.uniform(-spread, spread)
     return [diagonal * size() if i == j else -size() for i in range(n) for j in range(n)]
