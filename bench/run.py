@@ -4,11 +4,12 @@
     python3 bench/run.py [--quick] [--no-errors] [--goals] [--sizes 2,4,8-12] [--against libhosts.a]
 
 builds the proved library (`rt staticlib hosts`), bench/steps.c and bench/time.c into target/bench, checks
-that all give the same bits and decisions, and prints seven parts: the time of a whole table, of sheets at the
-edge of the range, errors, the time of one column, of sheets with idle stages, of moving a sheet to another
-time unit, and of prices.  With --against the library of another commit, whose calls take the same arguments, runs
-beside it, and a last table says for each n whether sheets without idle stages take at most 1.03 of its time; its
-steps may be others, so its tables, columns and prices are held to be near and no more.
+that all give the same bits and decisions, and prints seven parts: the time of a whole table, of each reading, of
+sheets at the edge of the range, errors, the time of one column, of sheets with idle stages, of moving a sheet to
+another time unit, and of prices.  With --against the library of another commit, whose calls take the same arguments,
+runs beside it, and a last table says for each n whether sheets without idle stages take at most 1.03 of its time; its
+steps may be others, so its tables, columns and prices are held to be near and no more, and a library from before
+weights has no row for them.
 Standard library only; nothing is installed.  Exit status 1 if bits or decisions differ, or an error is above
 its allowance; with --goals also if one column takes more of the whole table's time than it should, or a sheet
 more of the other library's, which other work on the machine can bring about.
@@ -48,6 +49,7 @@ MOVING, OTHER_MOVING, UNCHECKED_MOVING = "yulanbowls, moving", "other library, m
 ALONE, PRICES, OTHER_PRICES, UNCHECKED_PRICES, CHECKED_PRICES = (
     "yulanbowls, table alone", "yulanbowls, prices", "other library, prices", "C -O3, prices", "checked C -O3, prices")
 OTHER_STEPS = [OTHER, OTHER_COLUMN, OTHER_PRICES]
+OTHERS = [*OTHER_STEPS, OTHER_MOVING]
 DECIDES = [OURS, "checked C -O3", "checked C -O2", WHOLE, COLUMN, CHECKED_COLUMN, MOVING, OTHER_MOVING, ALONE, PRICES,
            CHECKED_PRICES]
 GOALS = {8: 0.7, 32: 0.55}      # the most of the whole table's time that one column takes, for these n
@@ -109,8 +111,10 @@ def build(other: Optional[Path]) -> Path:
     build_library()
     objects = [renamed(other)] if other else []
     for suffix, flags in VARIANTS.items():
-        objects.append(BUILD / f"steps_{suffix}.o")
-        run(["cc", *COMMON, *flags, f"-DSUFFIX={suffix}", "-c", ROOT / "bench" / "steps.c", "-o", objects[-1]])
+        for name, weighted in ((f"steps_{suffix}.o", []), (f"weighted_{suffix}.o", ["-DWEIGHTED"])):
+            objects.append(BUILD / name)
+            run(["cc", *COMMON, *flags, *weighted, f"-DSUFFIX={suffix}", "-c", ROOT / "bench" / "steps.c", "-o",
+                 objects[-1]])
     lapack = has_openblas()
     if not lapack:
         print("No OpenBLAS here, so LAPACK's rows are left out. On Debian this installs it:\n"
@@ -163,7 +167,7 @@ def nearest_matrix(reading: int, n: int, sheet: Sheet) -> list[float]:
 
 def short_matrix(reading: int, n: int, sheet: Sheet) -> list[list[Fraction]]:
     """The exact A; for margins with a_ii to 400 binary digits, since the exact ones grow beyond reach."""
-    if reading == 1:
+    if reading != reference.MARGINS:
         return reference.exact_matrix(reading, n, sheet)
     return reference.exact_matrix(reading, n, sheet, lambda k: reference.rounded(k, 400, False))
 
@@ -185,8 +189,13 @@ def run_groups(program: Path, groups: Sequence[Group]) -> tuple[str, list[dict[s
             name, nanoseconds = next(lines).split("\t")
             answers = [parsed_answer(name, group.n, next(lines)) for _ in group.sheets]
             found[name] = Result(float(nanoseconds), answers)
-        results.append(found)
+        results.append({name: result for name, result in found.items() if not before_weights(group, name, result)})
     return lapack, results
+
+
+def before_weights(group: Group, name: str, result: Result) -> bool:
+    """Whether another library does not know sheets with weights: it refuses their reading."""
+    return group.reading == reference.WEIGHTS and name in OTHERS and all(number == 1 for number, _ in result.answers)
 
 
 def parsed_answer(name: str, n: int, line: str) -> tuple[int, list[float]]:
@@ -206,7 +215,7 @@ def expected_answer(group: Group, at: int, name: str) -> Union[Sequence[float], 
     """The numbers that the reference gives to a candidate for a sheet of a group, or its refusal."""
     asked = group.reading, group.n, reference.IN_SECONDS, group.sheets[at]
     if group.powers:
-        moved = reference.move(*asked, group.powers[at], group.n ** 2)
+        moved = reference.move(*asked, group.powers[at], len(group.sheets[at]))
         return moved.numbers if isinstance(moved, reference.Moved) else moved
     if name in ONE_COLUMN:
         made = reference.column(*asked, group.stages[at], group.n)
@@ -256,15 +265,18 @@ def without_matrices(group: Group) -> Group:
 
 
 def edge_groups(rng: random.Random, pairs: int) -> list[Group]:
-    """Sheets of reading 1 on either side of the edge of acceptance: one last place of one number apart, and
-    a quotient and a product of exactly 2^-1022 beside twice that."""
+    """Sheets of readings 1 and 3 on either side of the edge of acceptance: one last place of one number apart, and
+    quotients and products of exactly 2^-1022 beside twice that."""
     groups = [Group(1, 1, [[2.0 ** e] for e in (1021, 1022)]),
-              Group(1, 2, [[1.0, -(2.0 ** e), -(2.0 ** -511), 1.0] for e in (-510, -511)])]
+              Group(1, 2, [[1.0, -(2.0 ** e), -(2.0 ** -511), 1.0] for e in (-510, -511)]),
+              Group(3, 1, [[2.0 ** -511, 2.0 ** e] for e in (510, 511)]),
+              Group(3, 2, [[1.0, -(2.0 ** e), 0.0, 2.0 ** -10, 1.0, 2.0 ** -511] for e in (-510, -511)])]
     while len(groups) < pairs:
-        n = rng.randint(1, 5)
-        pair = reference.edge_pair(rng, 1, n, reference.random_sheet(rng, 1, n, reference.random_style(rng)))
+        reading, n = rng.choice([1, 3]), rng.randint(1, 5)
+        sheet = reference.random_sheet(rng, reading, n, reference.random_style(rng))
+        pair = reference.edge_pair(rng, reading, n, sheet)
         if pair is not None:
-            groups.append(Group(1, n, list(pair)))
+            groups.append(Group(reading, n, list(pair)))
     return [without_matrices(group) for group in groups]
 
 
@@ -326,12 +338,14 @@ Beside = dict[str, list[float]]     # what was timed, and for each size our time
 
 
 def part_times(program: Path, sizes: Sequence[int], batches: int) -> Beside:
-    """Both readings."""
+    """Each reading."""
     dense = timing_groups(1, sizes, batches, lambda rng, n: sheets.dense(rng, n, 0.01))
     margins = timing_groups(2, sizes, batches, lambda rng, n: sheets.dense(rng, n, 0.01))
     half = timing_groups(2, sizes, batches, lambda rng, n: sheets.with_stages_not_kept(rng, n, 1.0, 1.0))
-    untimed = [Group(g.reading, g.n, g.sheets) for g in [*dense, *margins, *half]]
-    edges = edge_groups(random.Random(7), 40)
+    weights = timing_groups(3, sizes, batches, lambda rng, n: sheets.with_weights(rng, n, 0.01))
+    timed = [*dense, *margins, *half, *weights]
+    untimed = [Group(g.reading, g.n, g.sheets) for g in timed]
+    edges = edge_groups(random.Random(7), 60)
     lapack, answers = run_groups(program, [*untimed, *edges])
     for group, found in zip(untimed, answers):
         check_answers("timing sheet", group, found)
@@ -340,10 +354,10 @@ def part_times(program: Path, sizes: Sequence[int], batches: int) -> Beside:
         check_answers("edge of acceptance", group, found)
     if not failures:
         print(f"Same bits and decisions as tools/reference.py: yulanbowls on {4 * len(untimed)} timing sheets, every\n"
-              f"C variant on the {4 * len(dense)} of reading 1, and both on {2 * len(edges)} sheets at the edge of\n"
-              "acceptance.\n")
+              f"C variant on the {4 * len(dense + weights)} of readings 1 and 3, and both on {2 * len(edges)} sheets "
+              "at the\nedge of acceptance.\n")
     print(machine_line(lapack) + "\n")
-    _, times = run_groups(program, [*dense, *margins, *half])
+    _, times = run_groups(program, timed)
     print(f"1. Time of the whole table, best of {batches} batches of at least 20 microseconds; the rows take turns.\n"
           "A column is a number of stages n. yulanbowls: the proved service with all questions, steps, range tests\n"
           "and the writing of the answer. C: bench/steps.c, the same steps and no questions; checked C: with every\n"
@@ -354,16 +368,27 @@ def part_times(program: Path, sizes: Sequence[int], batches: int) -> Beside:
     count = len(sizes)
     print_times(sizes, times[:count], [LAPACK, UNCHECKED, OTHER])
     print("Reading 2, margins: four dense sheets for each n; in the last row every second stage is not kept.\n")
-    both = [{**found, OURS + ", half kept": other[OURS]}
-            for found, other in zip(times[count:2 * count], times[2 * count:])]
-    print_times(sizes, both, [LAPACK, OTHER])
-    if OTHER not in times[0]:
-        return {}
-    print("The same with every second stage not kept.\n")
-    print_times(sizes, [{name: found[name] for name in (OURS, OTHER)} for found in times[2 * count:]], [OTHER])
-    ratios = [found[OURS].nanoseconds / found[OTHER].nanoseconds for found in times]
-    return {"whole table, reading 1": ratios[:count], "whole table, reading 2": ratios[count:2 * count],
-            "reading 2, every second stage not kept": ratios[2 * count:]}
+    kept, half_kept = times[count:2 * count], times[2 * count:3 * count]
+    print_times(sizes, [{**found, OURS + ", half kept": other[OURS]} for found, other in zip(kept, half_kept)],
+                [LAPACK, OTHER])
+    if OTHER in times[0]:
+        print("The same with every second stage not kept.\n")
+        print_times(sizes, [{name: found[name] for name in (OURS, OTHER)} for found in half_kept], [OTHER])
+    print("Reading 3, weights: four dense sheets for each n. A pivot takes a product for each of its sizes, and a\n"
+          "quotient; the other steps are those of reading 1.\n")
+    weighted = times[3 * count:]
+    print_times(sizes, weighted, [LAPACK, UNCHECKED, OTHER])
+    print_table(["time / its own for reading 1, n =", *(str(n) for n in sizes)],
+                [[name, *(three_digits(found[name].nanoseconds / of_rates[name].nanoseconds)
+                          for found, of_rates in zip(weighted, times))] for name in weighted[0]])
+    return ratios_beside({"whole table, reading 1": times[:count], "whole table, reading 2": kept,
+                          "reading 2, every second stage not kept": half_kept, "whole table, reading 3": weighted})
+
+
+def ratios_beside(found: dict[str, list[dict[str, Result]]]) -> Beside:
+    """For each kind of sheets that the other library knows, our time over its time."""
+    return {what: [of_size[OURS].nanoseconds / of_size[OTHER].nanoseconds for of_size in results]
+            for what, results in found.items() if OTHER in results[0]}
 
 
 # ==== 2. The slow path ====
@@ -420,7 +445,7 @@ def many(n: int) -> int:
 
 
 def error_cases(sizes: Sequence[int]) -> list[ErrorCase]:
-    """From well conditioned to badly conditioned, both readings."""
+    """From well conditioned to badly conditioned, each reading."""
     kinds: list[tuple[int, str, Callable[[random.Random, int], Sheet]]] = []
     for f in (1.0, 1e-3, 1e-6, 1e-9, 1e-12, 1e-15):
         kinds.append((1, f"leaving rates {f:.0e} of the moves", lambda rng, n, f=f: sheets.dense(rng, n, f)))
@@ -432,6 +457,12 @@ def error_cases(sizes: Sequence[int]) -> list[ErrorCase]:
     for f in (1.0, 1e-8):
         kinds.append((2, f"half not kept, margins {f:.0e}, moves to them 1e+04",
                       lambda rng, n, f=f: sheets.with_stages_not_kept(rng, n, f, 1e4)))
+    for f in (1.0, 1e-6, 1e-12):
+        kinds.append((3, f"weighted row sums {f:.0e} of the moves",
+                      lambda rng, n, f=f: sheets.with_weights(rng, n, f)))
+    for spread in (3, 30):
+        kinds.append((3, f"weights from 1e-{spread} to 1e{spread}, sums 1e-6 of the moves",
+                      lambda rng, n, spread=spread: sheets.with_weights(rng, n, 1e-6, spread)))
     return [ErrorCase(reading, n, what, [make(random.Random(100 * n + seed), n) for seed in range(many(n))])
             for reading, what, make in kinds for n in sizes]
 
@@ -622,15 +653,18 @@ def move_groups(sizes: Sequence[int], batches: int) -> list[Group]:
 
 
 def move_edge_groups(rng: random.Random, count: int) -> list[Group]:
-    """Sheets of either reading, each moved by two k, mostly such that a number comes to an end of the range of results
-    or beside it; first the ends themselves.  A product of (2 − 2^-52)·2^-511 rounds to 2^-1022 from below."""
+    """Sheets of each reading, each moved by two k, mostly such that a number comes to an end of the range of results
+    or beside it; first the ends themselves, and weights, which are not moved.  A product of (2 − 2^-52)·2^-511 rounds
+    to 2^-1022 from below."""
     nearly_two = 2 - 2.0 ** -52
     groups = [Group(1, 1, [[2.0 ** -510], [2.0 ** -511], [nearly_two * 2.0 ** -511]], powers=[-512] * 3),
-              Group(1, 1, [[nearly_two * 2.0 ** 511], [2.0 ** 512]], powers=[512] * 2)]
+              Group(1, 1, [[nearly_two * 2.0 ** 511], [2.0 ** 512]], powers=[512] * 2),
+              Group(3, 1, [[1.0, reference.LARGEST], [1.0, reference.SMALLEST_NORMAL]], powers=[512, -512])]
     while len(groups) < count:
-        reading, n = rng.choice([1, 2]), rng.randint(1, 5)
+        reading, n = rng.choice(reference.READINGS), rng.randint(1, 5)
         sheet = reference.sheet_to_move(rng, reading, n)
-        groups.append(Group(reading, n, [sheet] * 2, powers=[reference.random_power(rng, sheet) for _ in range(2)]))
+        powers = [reference.random_power(rng, n, sheet) for _ in range(2)]
+        groups.append(Group(reading, n, [sheet] * 2, powers=powers))
     return [without_matrices(group) for group in groups]
 
 

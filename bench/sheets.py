@@ -14,10 +14,16 @@ Sheet = list[float]
 
 def dense(rng: random.Random, n: int, diagonal: float, spread: float = 0.0) -> Sheet:
     """Every move there, sizes from 0.5 to 2, times 10 to a power up to `spread` either way; the diagonal
-    parameter is `diagonal` times such a number.  Good for both readings."""
+    parameter is `diagonal` times such a number.  Good for readings 1 and 2."""
     def size() -> float:
         return rng.uniform(0.5, 2.0) * 10.0 ** rng.uniform(-spread, spread)
     return [diagonal * size() if i == j else -size() for i in range(n) for j in range(n)]
+
+
+def with_weights(rng: random.Random, n: int, share: float, spread: float = 0.0) -> Sheet:
+    """Reading 3: a dense sheet whose weighted row sums are `share` times such a number, and weights from 0.5 to 2,
+    times 10 to a power up to `spread` either way."""
+    return dense(rng, n, share) + [rng.uniform(0.5, 2.0) * 10.0 ** rng.uniform(-spread, spread) for _ in range(n)]
 
 
 def with_stages_not_kept(rng: random.Random, n: int, margin: float, larger: float) -> Sheet:

@@ -1,8 +1,8 @@
 /* The steps for leaving rates of document 01, in its order and with the pivots of document 02, U8, in plain C: for
    the whole table, for one column of it, and for prices from it. run.py compiles this file several times: SUFFIX
-   gives each build its own function names, and with CHECKED every range test of document 01 stands at its step.
-   Questions 1 to 9 are not asked. Beside them, without CHECKED, the product of a sheet and a power of two, in two
-   ways.
+   gives each build its own function names, with CHECKED every range test of document 01 stands at its step, and with
+   WEIGHTED it is the whole table of a sheet with weights, with the pivots of U10, and nothing else. Questions 1 to 9
+   are not asked. Beside them, without CHECKED, the product of a sheet and a power of two, in two ways.
 
    The working tables have 32 numbers to a row. s stands apart from the sizes t, so the loop over a row may
    run over the diagonal place of t: no step reads that place. */
@@ -14,6 +14,11 @@
 #define LIMIT 32
 #define JOINED(a, b) a##b
 #define JOIN(a, b) JOINED(a, b)
+#ifdef WEIGHTED
+#define WHOLE_TABLE JOIN(weighted_, SUFFIX)
+#else
+#define WHOLE_TABLE JOIN(steps_, SUFFIX)
+#endif
 
 /* Row i of t from the sheet's sizes, and s_i from its diagonal. A zero of either sign is plus zero. */
 static inline void load_row(size_t n, const double *restrict sheet, size_t i, double (*restrict t)[LIMIT],
@@ -35,6 +40,31 @@ static inline void load(size_t n, const double *restrict sheet, double (*restric
     }
 }
 
+#ifdef WEIGHTED
+
+/* The pivot of stage k: from plus zero the sizes of its row, each times the weight of its stage, from the last back,
+   and s_k last, all over the weight of stage k. The weights follow the n * n numbers of the sheet. */
+static inline double row_pivot(size_t n, size_t k, const double *restrict row, double s, const double *restrict sheet)
+{
+    const double *weights = &sheet[n * n];
+    double sum = 0.0;
+    for (size_t j = n; j-- > k + 1;)
+        sum += row[j] * weights[j];
+    return (sum + s) / weights[k];
+}
+
+#else
+
+/* The pivot of stage k: from plus zero the sizes of its row from the last back, and s_k last. */
+static inline double row_pivot(size_t n, size_t k, const double *restrict row, double s, const double *restrict sheet)
+{
+    double pivot = 0.0;
+    (void)sheet;
+    for (size_t j = n; j-- > k + 1;)
+        pivot += row[j];
+    return pivot + s;
+}
+
 /* All rows, and one column of the identity for b. */
 static inline void load_column(size_t n, const double *restrict sheet, size_t column, double (*restrict t)[LIMIT],
                                double *restrict b, double *restrict s)
@@ -45,14 +75,7 @@ static inline void load_column(size_t n, const double *restrict sheet, size_t co
     }
 }
 
-/* The pivot of stage k: from plus zero the sizes of its row from the last back, and s_k last. */
-static inline double row_pivot(size_t n, size_t k, const double *restrict row, double s)
-{
-    double pivot = 0.0;
-    for (size_t j = n; j-- > k + 1;)
-        pivot += row[j];
-    return pivot + s;
-}
+#endif
 
 #ifndef CHECKED
 
@@ -64,12 +87,12 @@ static inline void add_multiple(size_t count, double m, const double *restrict f
 }
 
 /* The whole table; 1 always. */
-int JOIN(steps_, SUFFIX)(size_t n, const double *restrict sheet, double *restrict answer)
+int WHOLE_TABLE(size_t n, const double *restrict sheet, double *restrict answer)
 {
     double t[LIMIT][LIMIT], b[LIMIT][LIMIT], s[LIMIT], p[LIMIT];
     load(n, sheet, t, b, s);
     for (size_t k = 0; k < n; k++) {
-        double pivot = row_pivot(n, k, t[k], s[k]);
+        double pivot = row_pivot(n, k, t[k], s[k], sheet);
         p[k] = pivot;
         for (size_t i = k + 1; i < n; i++) {
             double m = t[i][k] / pivot;
@@ -87,13 +110,15 @@ int JOIN(steps_, SUFFIX)(size_t n, const double *restrict sheet, double *restric
     return 1;
 }
 
+#ifndef WEIGHTED
+
 /* One column, counted from 0; 1 always. */
 int JOIN(column_, SUFFIX)(size_t n, const double *restrict sheet, size_t column, double *restrict answer)
 {
     double t[LIMIT][LIMIT], b[LIMIT], s[LIMIT], p[LIMIT];
     load_column(n, sheet, column, t, b, s);
     for (size_t k = 0; k < n; k++) {
-        double pivot = row_pivot(n, k, t[k], s[k]);
+        double pivot = row_pivot(n, k, t[k], s[k], sheet);
         p[k] = pivot;
         for (size_t i = k + 1; i < n; i++) {
             double m = t[i][k] / pivot;
@@ -116,7 +141,7 @@ int JOIN(prices_, SUFFIX)(size_t n, const double *restrict sheet, const double *
                           double *restrict answer)
 {
     double x[LIMIT * LIMIT];
-    JOIN(steps_, SUFFIX)(n, sheet, x);
+    WHOLE_TABLE(n, sheet, x);
     for (size_t i = 0; i < n; i++) {
         double sum = 0.0;
         for (size_t j = 0; j < n; j++)
@@ -143,6 +168,8 @@ int JOIN(ldexp_, SUFFIX)(size_t n, const double *restrict sheet, int k, double *
         answer[place] = ldexp(sheet[place], k);
     return 1;
 }
+
+#endif
 
 #else
 
@@ -181,14 +208,32 @@ static inline void add_multiple(size_t count, double m, const double *restrict f
     }
 }
 
+#ifdef WEIGHTED
+
+/* The flag after the steps that weights add to the pivot of stage k. Its sum is above zero, and is not finite where a
+   product is not, and then neither is the pivot, which is tested for that. */
+static inline double weighted_steps(double flag, size_t n, size_t k, const double *restrict row,
+                                    const double *restrict sheet, double pivot, double *restrict flags)
+{
+    const double *weights = &sheet[n * n];
+    for (size_t j = k + 1; j < n; j++)
+        flags[j] = above(flags[j], row[j] * weights[j], DBL_MIN, row[j]);
+    return pivot > DBL_MIN ? flag : 1.0;
+}
+
+#endif
+
 /* The whole table; 1 where every step is in range, else 0 with no place changed. */
-int JOIN(steps_, SUFFIX)(size_t n, const double *restrict sheet, double *restrict answer)
+int WHOLE_TABLE(size_t n, const double *restrict sheet, double *restrict answer)
 {
     double t[LIMIT][LIMIT], b[LIMIT][LIMIT], s[LIMIT], p[LIMIT], flags[LIMIT] = {0.0}, flag = 0.0;
     load(n, sheet, t, b, s);
     for (size_t k = 0; k < n; k++) {
-        double pivot = row_pivot(n, k, t[k], s[k]);
+        double pivot = row_pivot(n, k, t[k], s[k], sheet);
         flag = finite(flag, pivot);
+#ifdef WEIGHTED
+        flag = weighted_steps(flag, n, k, t[k], sheet, pivot, flags);
+#endif
         p[k] = pivot;
         for (size_t i = k + 1; i < n; i++) {
             double m = t[i][k] / pivot;
@@ -223,13 +268,15 @@ int JOIN(steps_, SUFFIX)(size_t n, const double *restrict sheet, double *restric
     return 1;
 }
 
+#ifndef WEIGHTED
+
 /* One column, counted from 0; 1 where every step of it is in range, else 0 with no place changed. */
 int JOIN(column_, SUFFIX)(size_t n, const double *restrict sheet, size_t column, double *restrict answer)
 {
     double t[LIMIT][LIMIT], b[LIMIT], s[LIMIT], p[LIMIT], flags[LIMIT] = {0.0}, flag = 0.0;
     load_column(n, sheet, column, t, b, s);
     for (size_t k = 0; k < n; k++) {
-        double pivot = row_pivot(n, k, t[k], s[k]);
+        double pivot = row_pivot(n, k, t[k], s[k], sheet);
         flag = finite(flag, pivot);
         p[k] = pivot;
         for (size_t i = k + 1; i < n; i++) {
@@ -267,7 +314,7 @@ int JOIN(prices_, SUFFIX)(size_t n, const double *restrict sheet, const double *
                           double *restrict answer)
 {
     double x[LIMIT * LIMIT], p[LIMIT], flags[LIMIT] = {0.0}, flag = 0.0;
-    if (!JOIN(steps_, SUFFIX)(n, sheet, x))
+    if (!WHOLE_TABLE(n, sheet, x))
         return 0;
     for (size_t i = 0; i < n; i++) {
         double sum = 0.0;
@@ -286,5 +333,7 @@ int JOIN(prices_, SUFFIX)(size_t n, const double *restrict sheet, const double *
     memcpy(answer, p, n * sizeof(double));
     return 1;
 }
+
+#endif
 
 #endif

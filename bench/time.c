@@ -3,11 +3,12 @@
 
    Input, in 8-byte words, group after group: reading, n, how many sheets, how many batches, what the group is about
    (0 whole tables, 1 one column, 2 moving, 3 prices), for each sheet the stage whose column is asked for, or the k of
-   the 2^k that it is moved by, or 0, for each sheet n prices, the sheets row by row, then for each sheet its matrix A
-   column by column. Output: a line with OpenBLAS's build and kernels, or "none"; then for each group a line with the
-   number of its candidates, and for each of them a line with the name, a tab and the nanoseconds for one call (0
-   without batches), and a line for each sheet: 0 or the number of the refusal, and the words of the answer in
-   hexadecimal, n of a column or of prices and else n × n. */
+   the 2^k that it is moved by, or 0, for each sheet n prices, the sheets row by row, in reading 3 each with its n
+   weights after it, then for each sheet its matrix A column by column. Output: a line with OpenBLAS's build and
+   kernels, or "none"; then for each group a line with the number of its candidates, and for each of them a line with
+   the name, a tab and the nanoseconds for one call (0 without batches), and a line for each sheet: 0 or the number of
+   the refusal, and the words of the answer in hexadecimal, n × n of a table, n of a column or of prices, and as many
+   as the sheet has where it is moved. */
 #define _POSIX_C_SOURCE 200809L
 #include <stdint.h>
 #include <stdio.h>
@@ -17,7 +18,8 @@
 
 #include "yulanbowls.h"
 
-enum { LIMIT = 32, MOST = LIMIT * LIMIT, WORKSPACE = 64 * LIMIT, MOST_GROUPS = 256, MOST_CANDIDATES = 22 };
+enum { LIMIT = 32, MOST = LIMIT * LIMIT + LIMIT, WORKSPACE = 64 * LIMIT, MOST_GROUPS = 256, MOST_CANDIDATES = 22 };
+enum { WEIGHTS = 3 };                         /* the reading whose sheets have n weights after their numbers */
 enum { TURN = 10 };                           /* batches of a group before the next group has its turn */
 enum { IN_SECONDS = 0 };                      /* the e of every sheet: no answer depends on it */
 static const double shortest_batch = 20000.0; /* nanoseconds: long beside what a look at the clock costs */
@@ -32,8 +34,8 @@ struct group {
 
 /* The groups that a candidate takes part in: those about whole tables, those about one column, where whole tables
    stand beside the columns, those about moving, those about prices, again with whole tables beside them, each under
-   its number in the input, or those about whole tables that have reading 1. */
-enum part { TABLES, COLUMNS, MOVES, PRICES, TABLES_OF_RATES };
+   its number in the input, or those about whole tables that have reading 1 or 3. */
+enum part { TABLES, COLUMNS, MOVES, PRICES, TABLES_BUT_MARGINS };
 
 struct candidate {
     const char *name;
@@ -42,35 +44,41 @@ struct candidate {
     int n_numbers; /* whether its answer is n numbers */
 };
 
+/* How many numbers each sheet of a group has. */
+static size_t length_of(const struct group *g)
+{
+    return g->n * g->n + (g->reading == WEIGHTS ? g->n : 0);
+}
+
 static const double *sheet_of(const struct group *g, size_t at)
 {
-    return &g->numbers[at * g->n * g->n];
+    return &g->numbers[at * length_of(g)];
 }
 
 static size_t proved(const struct group *g, size_t at, double *answer)
 {
-    size_t allowance, row, column, places = g->n * g->n;
-    return yulanbowls_table(g->reading, g->n, IN_SECONDS, sheet_of(g, at), places, answer, places, &allowance, &row,
-                            &column);
+    size_t allowance, row, column;
+    return yulanbowls_table(g->reading, g->n, IN_SECONDS, sheet_of(g, at), length_of(g), answer, g->n * g->n,
+                            &allowance, &row, &column);
 }
 
 static size_t proved_column(const struct group *g, size_t at, double *answer)
 {
     size_t allowance, row, column;
-    return yulanbowls_column(g->reading, g->n, IN_SECONDS, sheet_of(g, at), g->n * g->n, (size_t)g->asked[at], answer,
-                             g->n, &allowance, &row, &column);
+    return yulanbowls_column(g->reading, g->n, IN_SECONDS, sheet_of(g, at), length_of(g), (size_t)g->asked[at],
+                             answer, g->n, &allowance, &row, &column);
 }
 
 static size_t proved_prices(const struct group *g, size_t at, double *answer)
 {
     size_t allowance, row, column;
-    return yulanbowls_prices(g->reading, g->n, IN_SECONDS, sheet_of(g, at), g->n * g->n, &g->prices[at * g->n], g->n,
+    return yulanbowls_prices(g->reading, g->n, IN_SECONDS, sheet_of(g, at), length_of(g), &g->prices[at * g->n], g->n,
                              answer, g->n, &allowance, &row, &column);
 }
 
 static size_t proved_move(const struct group *g, size_t at, double *answer)
 {
-    size_t row, column, places = g->n * g->n;
+    size_t row, column, places = length_of(g);
     int64_t moved_e;
     return yulanbowls_move(g->reading, g->n, IN_SECONDS, sheet_of(g, at), places, g->asked[at], answer, places,
                            &moved_e, &row, &column);
@@ -91,21 +99,21 @@ size_t other_prices(size_t reading, size_t n, int64_t e, const double *sheet, si
 
 static size_t other(const struct group *g, size_t at, double *answer)
 {
-    size_t allowance, row, column, places = g->n * g->n;
-    return other_table(g->reading, g->n, IN_SECONDS, sheet_of(g, at), places, answer, places, &allowance, &row,
-                       &column);
+    size_t allowance, row, column;
+    return other_table(g->reading, g->n, IN_SECONDS, sheet_of(g, at), length_of(g), answer, g->n * g->n, &allowance,
+                       &row, &column);
 }
 
 static size_t other_one(const struct group *g, size_t at, double *answer)
 {
     size_t allowance, row, column;
-    return other_column(g->reading, g->n, IN_SECONDS, sheet_of(g, at), g->n * g->n, (size_t)g->asked[at], answer,
+    return other_column(g->reading, g->n, IN_SECONDS, sheet_of(g, at), length_of(g), (size_t)g->asked[at], answer,
                         g->n, &allowance, &row, &column);
 }
 
 static size_t other_moved(const struct group *g, size_t at, double *answer)
 {
-    size_t row, column, places = g->n * g->n;
+    size_t row, column, places = length_of(g);
     int64_t moved_e;
     return other_move(g->reading, g->n, IN_SECONDS, sheet_of(g, at), places, g->asked[at], answer, places, &moved_e,
                       &row, &column);
@@ -114,16 +122,20 @@ static size_t other_moved(const struct group *g, size_t at, double *answer)
 static size_t other_priced(const struct group *g, size_t at, double *answer)
 {
     size_t allowance, row, column;
-    return other_prices(g->reading, g->n, IN_SECONDS, sheet_of(g, at), g->n * g->n, &g->prices[at * g->n], g->n, answer,
-                        g->n, &allowance, &row, &column);
+    return other_prices(g->reading, g->n, IN_SECONDS, sheet_of(g, at), length_of(g), &g->prices[at * g->n], g->n,
+                        answer, g->n, &allowance, &row, &column);
 }
 #endif
 
 #define STEPS(suffix)                                                                        \
     int steps_##suffix(size_t n, const double *sheet, double *answer);                       \
+    int weighted_##suffix(size_t n, const double *sheet, double *answer);                    \
     static size_t table_##suffix(const struct group *g, size_t at, double *answer)           \
     {                                                                                        \
-        return steps_##suffix(g->n, sheet_of(g, at), answer) ? 0 : 10;                       \
+        const double *sheet = sheet_of(g, at);                                               \
+        int done = g->reading == WEIGHTS ? weighted_##suffix(g->n, sheet, answer)            \
+                                         : steps_##suffix(g->n, sheet, answer);              \
+        return done ? 0 : 10;                                                                \
     }
 STEPS(plain_O2)
 STEPS(plain_O3)
@@ -149,10 +161,13 @@ COLUMN_STEPS(checked_O3)
 PRICE_STEPS(plain_O3)
 PRICE_STEPS(checked_O3)
 
+/* Weights are not moved. */
 #define MOVE(way)                                                                            \
     int way##_plain_O3(size_t n, const double *sheet, int k, double *answer);                \
     static size_t moved_by_##way(const struct group *g, size_t at, double *answer)           \
     {                                                                                        \
+        if (g->reading == WEIGHTS)                                                           \
+            memcpy(&answer[g->n * g->n], &sheet_of(g, at)[g->n * g->n], g->n * sizeof *answer); \
         return way##_plain_O3(g->n, sheet_of(g, at), (int)g->asked[at], answer) ? 0 : 16;    \
     }
 MOVE(move)
@@ -185,11 +200,11 @@ static const struct candidate candidates[] = {
 #ifdef OTHER
     {"other library", other, TABLES, 0},
 #endif
-    {"C -O3", table_plain_O3, TABLES_OF_RATES, 0},
-    {"C -O2", table_plain_O2, TABLES_OF_RATES, 0},
-    {"checked C -O3", table_checked_O3, TABLES_OF_RATES, 0},
-    {"checked C -O2", table_checked_O2, TABLES_OF_RATES, 0},
-    {"C -O3 -march=native", table_plain_native, TABLES_OF_RATES, 0},
+    {"C -O3", table_plain_O3, TABLES_BUT_MARGINS, 0},
+    {"C -O2", table_plain_O2, TABLES_BUT_MARGINS, 0},
+    {"checked C -O3", table_checked_O3, TABLES_BUT_MARGINS, 0},
+    {"checked C -O2", table_checked_O2, TABLES_BUT_MARGINS, 0},
+    {"C -O3 -march=native", table_plain_native, TABLES_BUT_MARGINS, 0},
 #ifdef LAPACK
     {"LAPACK", lapack, TABLES, 0},
 #endif
@@ -219,8 +234,8 @@ _Static_assert(CANDIDATES <= MOST_CANDIDATES, "room for every candidate");
 
 static int takes_part(const struct group *g, size_t c)
 {
-    if (candidates[c].part == TABLES_OF_RATES)
-        return g->about == TABLES && g->reading == 1;
+    if (candidates[c].part == TABLES_BUT_MARGINS)
+        return g->about == TABLES && g->reading != 2;
     return g->about == candidates[c].part;
 }
 
@@ -292,7 +307,7 @@ static void measure_all(struct group *groups, size_t count)
 
 static void print_answers(const struct group *g, size_t c)
 {
-    size_t places = candidates[c].n_numbers ? g->n : g->n * g->n;
+    size_t places = candidates[c].n_numbers ? g->n : g->about == MOVES ? length_of(g) : g->n * g->n;
     for (size_t at = 0; at < g->sheets; at++) {
         double answer[MOST] = {0.0};
         printf("%zu", candidates[c].call(g, at, answer));
@@ -352,7 +367,7 @@ static int read_group(struct group *g)
     }
     g->asked = read_many(g->sheets);
     g->prices = read_many(g->sheets * g->n);
-    g->numbers = read_many(g->sheets * g->n * g->n);
+    g->numbers = read_many(g->sheets * length_of(g));
     g->matrices = read_many(g->sheets * g->n * g->n);
     return 1;
 }

@@ -1,8 +1,8 @@
 /*
  * Prints the table of a sheet file, and times that follow from it, by the proved library: host FILE, or host < FILE.
  * With host FILE COPY the sheet that was loaded is saved as COPY too. With host FILE COPY K it is moved to another
- * time unit first, every number times 2^K: K = -10 makes rates per second rates per tick, at 1,024 ticks a second, and
- * the copy says so.
+ * time unit first, every number but the weights times 2^K: K = -10 makes rates per second rates per tick, at 1,024
+ * ticks a second, and the copy says so.
  *
  *   rt staticlib hosts
  *   cc -std=c99 -Wall -Wextra -pedantic -I include examples/host.c target/staticlib/libhosts.a -o target/host
@@ -18,12 +18,18 @@
 
 #include "yulanbowls.h"
 
-/* A sheet as it was loaded or moved: rates are per unit of 2^e seconds, and times in that unit. */
+/* A sheet as it was loaded or moved: rates are per unit of 2^e seconds, and times in that unit. In reading 3 weights
+ * follow the n * n numbers. */
 struct sheet {
     size_t reading, n;
     int64_t e;
-    double numbers[YULANBOWLS_NUMBERS];
+    double numbers[YULANBOWLS_SHEET_NUMBERS];
 };
+
+static size_t count_numbers(const struct sheet *s)
+{
+    return s->n * s->n + (s->reading == 3 ? s->n : 0);
+}
 
 /* What a call is refused with. */
 struct refusal {
@@ -54,7 +60,7 @@ static int print_last(const struct sheet *s)
     double time;
     struct refusal no;
 
-    no.number = yulanbowls_entry(s->reading, s->n, s->e, s->numbers, s->n * s->n, 1, s->n, &time, &no.row,
+    no.number = yulanbowls_entry(s->reading, s->n, s->e, s->numbers, count_numbers(s), 1, s->n, &time, &no.row,
                                  &no.column);
     if (no.number != 0) {
         return print_refusal(&no);
@@ -78,8 +84,8 @@ static int print_column(const struct sheet *s)
     size_t allowance;
     struct refusal no;
 
-    no.number = yulanbowls_column(s->reading, s->n, s->e, s->numbers, s->n * s->n, s->n, times, YULANBOWLS_STAGES,
-                                  &allowance, &no.row, &no.column);
+    no.number = yulanbowls_column(s->reading, s->n, s->e, s->numbers, count_numbers(s), s->n, times,
+                                  YULANBOWLS_STAGES, &allowance, &no.row, &no.column);
     if (no.number != 0) {
         return print_refusal(&no);
     }
@@ -98,7 +104,7 @@ static int print_totals(const struct sheet *s)
     for (size_t j = 0; j < s->n; j++) {
         prices[j] = 1.0;
     }
-    no.number = yulanbowls_prices(s->reading, s->n, s->e, s->numbers, s->n * s->n, prices, s->n, times,
+    no.number = yulanbowls_prices(s->reading, s->n, s->e, s->numbers, count_numbers(s), prices, s->n, times,
                                   YULANBOWLS_STAGES, &allowance, &no.row, &no.column);
     if (no.number != 0) {
         return print_refusal(&no);
@@ -114,7 +120,7 @@ static int print_sheet(const struct sheet *s)
     size_t allowance;
     struct refusal no;
 
-    no.number = yulanbowls_table(s->reading, s->n, s->e, s->numbers, s->n * s->n, table, YULANBOWLS_NUMBERS,
+    no.number = yulanbowls_table(s->reading, s->n, s->e, s->numbers, count_numbers(s), table, YULANBOWLS_NUMBERS,
                                  &allowance, &no.row, &no.column);
     if (no.number != 0) {
         return print_refusal(&no);
@@ -134,8 +140,8 @@ static int save_sheet(const struct sheet *s, const char *name)
     FILE *to;
     int done;
 
-    no.number = yulanbowls_save_numbers(s->reading, s->n, s->e, s->numbers, s->n * s->n, bytes, sizeof bytes, &length,
-                                        &no.row, &no.column);
+    no.number = yulanbowls_save_numbers(s->reading, s->n, s->e, s->numbers, count_numbers(s), bytes, sizeof bytes,
+                                        &length, &no.row, &no.column);
     if (no.number != 0) {
         return print_refusal(&no);
     }
@@ -159,8 +165,8 @@ static int save_moved(const struct sheet *s, int64_t k, const char *name)
 
     moved.reading = s->reading;
     moved.n = s->n;
-    no.number = yulanbowls_move(s->reading, s->n, s->e, s->numbers, s->n * s->n, k, moved.numbers, YULANBOWLS_NUMBERS,
-                                &moved.e, &no.row, &no.column);
+    no.number = yulanbowls_move(s->reading, s->n, s->e, s->numbers, count_numbers(s), k, moved.numbers,
+                                YULANBOWLS_SHEET_NUMBERS, &moved.e, &no.row, &no.column);
     if (no.number != 0) {
         return print_refusal(&no);
     }
@@ -181,8 +187,8 @@ static int print_file(FILE *from, const char *copy, const int64_t *k)
         perror("host");
         return 2;
     }
-    no.number = yulanbowls_read_numbers(bytes, length, s.numbers, YULANBOWLS_NUMBERS, &s.reading, &s.n, &s.e, &no.row,
-                                        &no.column);
+    no.number = yulanbowls_read_numbers(bytes, length, s.numbers, YULANBOWLS_SHEET_NUMBERS, &s.reading, &s.n, &s.e,
+                                        &no.row, &no.column);
     if (no.number != 0) {
         return print_refusal(&no);
     }

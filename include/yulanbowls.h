@@ -10,13 +10,17 @@
  *   1,024. Off the diagonal, place (i, j) holds minus the rate of moving from stage i to stage j. The diagonal
  *   place of stage i holds
  *     reading 1: the rate at which requests leave for good, zero or above;
- *     reading 2: the margin of row i, above zero.
- *   Rates and margins are per unit: with e = 0 per second, with e = -10 per tick of a clock that ticks 1,024 times
- *   a second. Times are in the same unit. So e says what the numbers mean and changes none of them: for every e in
- *   its range a table, a column or an entry has the same bits.
- *   Stages, rows and columns are numbered from 1. In reading 1 a stage whose row and column are all zero, the
- *   diagonal place included, is idle. Idle stages keep their numbers and n counts them, but the computation
- *   leaves them out. A zero of either sign is a zero.
+ *     reading 2: the margin of row i, above zero;
+ *     reading 3: the weighted row sum of row i, above zero, which is the sum over j of entry (i, j) of the exact
+ *                matrix times the weight of stage j.
+ *   In reading 3 the weights of the n stages, above zero, follow the n * n numbers, so such a sheet has n * n + n
+ *   numbers, at most 1,056.
+ *   Rates, margins and weighted row sums are per unit: with e = 0 per second, with e = -10 per tick of a clock that
+ *   ticks 1,024 times a second. Weights have no unit. Times are in the same unit as rates. So e says what the numbers
+ *   mean and changes none of them: for every e in its range a table, a column or an entry has the same bits.
+ *   Stages, rows and columns are numbered from 1, and the weights are row n + 1, with that of stage j in column j.
+ *   In reading 1 a stage whose row and column are all zero, the diagonal place included, is idle. Idle stages keep
+ *   their numbers and n counts them, but the computation leaves them out. A zero of either sign is a zero.
  *
  * The answer of a call
  *   Every call but yulanbowls_report returns 0 if it is accepted, and else the number of its refusal. `*row`
@@ -27,16 +31,18 @@
  *   record, then 14 and then 4. The first decides.
  *
  *   number  the call is refused because                                          row, column
- *        1  the reading is neither 1 nor 2, or, for a column, is not 1            0, 0
+ *        1  the reading is none of 1, 2 and 3, or, for a column, is not 1         0, 0
  *        2  n is below 1 or above 32                                              0, 0
- *        3  the sheet has more or fewer than n * n numbers                        0, 0
- *        4  the area has room for fewer than n * n numbers, or, for a column      0, 0
- *           and for prices, for fewer than n, or, in saving, for fewer than
- *           12 + n * (8n + 8) bytes
+ *        3  the sheet has more or fewer than n * n numbers, in reading 3 than     0, 0
+ *           n * n + n
+ *        4  the area has room for fewer than n * n numbers (a table), n (a        0, 0
+ *           column, prices), those of the sheet (reading a file, moving), or
+ *           12 + n * (8n + 8) bytes, in reading 3 8n + 6 more (saving)
  *        5  a stage that is asked for is below 1 or above n                       0, 0
  *        6  a number is an infinity or a NaN                                      of the first such number
  *        7  a number has the wrong sign: off the diagonal it is above zero,       of the first such number
- *           or on it below zero (reading 1), or not above zero (reading 2)
+ *           or on it below zero (reading 1) or not above zero (readings 2
+ *           and 3), or it is a weight and not above zero
  *        8  a number is not zero and smaller in size than 2^-1022                 of the first such number
  *        9  reading 1: from some stage that is not idle no chain of moves         of the lowest such stage, 0
  *           leads out
@@ -45,12 +51,14 @@
  *           zero is not above 2^-1022
  *       11  the file ends inside a record                                         of the row due (head: 0), 0
  *       12  e is below -512 or above 512, or the file's first record is no        0, 0
- *           head with reading 1 or 2, 1 to 32 stages and such an e
- *       13  a record is not the row that is due, of n numbers                     of the row due, 0
- *       14  bytes follow the last row                                             0, 0
+ *           head with reading 1, 2 or 3, 1 to 32 stages and such an e
+ *       13  a record is not the row that is due, of n numbers, or, after the      of the row due, 0
+ *           rows of reading 3, not that of the n weights
+ *       14  bytes follow the last row, in reading 3 the weights                   0, 0
  *       15  k is below -512 or above 512                                          0, 0
- *       16  the exact product of 2^k and a number that is not zero is larger      0, 0
- *           in size than the largest finite number, or smaller than 2^-1022
+ *       16  the exact product of 2^k and a number that is neither zero nor a      0, 0
+ *           weight is larger in size than the largest finite number, or
+ *           smaller than 2^-1022
  *       17  e + k is below -512 or above 512                                      0, 0
  *       18  there are more or fewer than n prices                                 0, 0
  *       19  a price is an infinity or a NaN, negative, or not zero and smaller    the first such price's
@@ -82,23 +90,26 @@
 extern "C" {
 #endif
 
-/* The largest n, the most numbers of a sheet or a table, the least and the largest e of a time unit, the bytes of
+/* The largest n, the most numbers of a table and of a sheet, the least and the largest e of a time unit, the bytes of
  * the longest sheet file, and the bytes that yulanbowls_report has to be lent. */
 #define YULANBOWLS_STAGES 32
 #define YULANBOWLS_NUMBERS 1024
+#define YULANBOWLS_SHEET_NUMBERS 1056
 #define YULANBOWLS_UNIT_LEAST (-512)
 #define YULANBOWLS_UNIT_MOST 512
-#define YULANBOWLS_FILE_BYTES 8460
+#define YULANBOWLS_FILE_BYTES 8722
 #define YULANBOWLS_TEXT_BYTES 32768
 
 /*
  * The whole table. Accepted: the first n * n places of `answer` hold it row by row, place (i, j) the time, in
  * units of 2^e seconds, that a request entering at stage i spends at stage j, and later places are unchanged.
- * Every entry in the row or the column of an idle stage is plus zero. `*allowance` is E = 4n^3 (reading 1) or
- * 12n^3 (reading 2): the exact matrix of the stages that are not idle has one inverse, no entry of which is
- * negative, and each of their entries is within a factor (1 + 2^-53)^E of that inverse's, above and below, so it
- * is zero exactly where that is zero. The bits are those of the published steps, each rounded once; a pivot adds a
- * stage's rates to later stages from the last one back, beginning at plus zero, and its leaving rate at the end.
+ * Every entry in the row or the column of an idle stage is plus zero. `*allowance` is E = 4n^3 (reading 1), 12n^3
+ * (reading 2) or 6n^3 (reading 3): the exact matrix of the stages that are not idle has one inverse, no entry of
+ * which is negative, and each of their entries is within a factor (1 + 2^-53)^E of that inverse's, above and below,
+ * so it is zero exactly where that is zero. The bits are those of the published steps, each rounded once; a pivot
+ * adds a stage's rates to later stages from the last one back, beginning at plus zero, and its leaving rate at the
+ * end. In reading 3 it adds these rates times the weights of the stages that they lead to, then the weighted row sum,
+ * and divides by the stage's own weight; each product and the quotient is a step, also where a weight is 1.
  */
 size_t yulanbowls_table(size_t reading, size_t n, int64_t e,
                         const double *sheet, size_t sheet_length,
@@ -115,8 +126,8 @@ size_t yulanbowls_entry(size_t reading, size_t n, int64_t e,
                         double *seconds, size_t *row, size_t *column);
 
 /*
- * The column of one stage, for reading 1 alone: reading 2 is refused with 1. `answer` needs room for n numbers.
- * Accepted: its first n places hold the column, place i the time, in units of 2^e seconds, that a request
+ * The column of one stage, for reading 1 alone: readings 2 and 3 are refused with 1. `answer` needs room for n
+ * numbers. Accepted: its first n places hold the column, place i the time, in units of 2^e seconds, that a request
  * entering at stage i spends at `stage`, and later places are unchanged. `*allowance` is E = 4n^3, and each
  * number is within a factor (1 + 2^-53)^E of that entry of the exact inverse, or plus zero for an idle stage, as
  * in the table. Where the whole table is accepted so is each of its columns, with the same bits. The call takes
@@ -136,9 +147,9 @@ size_t yulanbowls_column(size_t reading, size_t n, int64_t e,
  * Accepted: place i of its first n places holds the price of a request that enters at stage i, which is the sum of
  * the entries (i, j) of the table times price j, from plus zero and with j rising, each operation rounded once; later
  * places are unchanged. A request that enters at an idle stage costs plus zero. `*allowance` is E = 4n^3 + n (reading
- * 1) or 12n^3 + n (reading 2): each number is within a factor (1 + 2^-53)^E of the exact price, which is the sum of
- * the entries of the exact inverse times the prices, zero in an idle row or column. Refused with 10 wherever the
- * whole table is, and where a product or a sum of the prices leaves the range.
+ * 1), 12n^3 + n (reading 2) or 6n^3 + n (reading 3): each number is within a factor (1 + 2^-53)^E of the exact price,
+ * which is the sum of the entries of the exact inverse times the prices, zero in an idle row or column. Refused with
+ * 10 wherever the whole table is, and where a product or a sum of the prices leaves the range.
  */
 size_t yulanbowls_prices(size_t reading, size_t n, int64_t e,
                          const double *sheet, size_t sheet_length,
@@ -148,9 +159,10 @@ size_t yulanbowls_prices(size_t reading, size_t n, int64_t e,
 
 /*
  * Reads a sheet file that is in memory. Accepted: `*reading`, `*n` and `*e` are those of its head, the first n * n
- * places of `area` hold its numbers row by row, and later places are unchanged. A file from before units, with no
- * e in its head, is in seconds: `*e` is 0. The numbers are not judged: that is for the calls above. A NaN of the
- * file becomes a NaN, whose bits may differ; every other number keeps its bits.
+ * places of `area` hold its numbers row by row, in reading 3 the next n its weights, and later places are unchanged.
+ * An area of YULANBOWLS_SHEET_NUMBERS has room for every sheet. A file from before units, with no e in its head, is
+ * in seconds: `*e` is 0. The numbers are not judged: that is for the calls above. A NaN of the file becomes a NaN,
+ * whose bits may differ; every other number keeps its bits.
  */
 size_t yulanbowls_read_numbers(const uint8_t *bytes, size_t bytes_length,
                                double *area, size_t area_length,
@@ -162,11 +174,11 @@ size_t yulanbowls_read_words(const uint8_t *bytes, size_t bytes_length,
                              size_t *reading, size_t *n, int64_t *e, size_t *row, size_t *column);
 
 /*
- * Saves a sheet as a file in memory. Accepted: the first `*length` bytes of `bytes` are the file, of
- * 12 + n * (8n + 8) bytes, so at most YULANBOWLS_FILE_BYTES, and later bytes are unchanged. The numbers are
- * not judged: a sheet with a NaN, a wrong sign or a stage that nobody leaves is saved too. Read back, the file
- * gives the same reading, n, e and numbers. Every number keeps its bits, but a NaN is written as
- * 7ff8000000000000.
+ * Saves a sheet as a file in memory. Accepted: the first `*length` bytes of `bytes` are the file, and later bytes are
+ * unchanged. A file has 12 + n * (8n + 8) bytes, and in reading 3 another 8n + 6 for the weights, so at most
+ * YULANBOWLS_FILE_BYTES. The numbers are not judged: a sheet with a NaN, a wrong sign or a stage that nobody leaves
+ * is saved too. Read back, the file gives the same reading, n, e and numbers, weights included. Every number keeps
+ * its bits, but a NaN is written as 7ff8000000000000.
  */
 size_t yulanbowls_save_numbers(size_t reading, size_t n, int64_t e,
                                const double *sheet, size_t sheet_length,
@@ -182,9 +194,10 @@ size_t yulanbowls_save_words(size_t reading, size_t n, int64_t e,
                              size_t *length, size_t *row, size_t *column);
 
 /*
- * Moves a sheet to another time unit: every number times 2^k, for k from -512 to 512. Accepted: the first n * n
- * places of `area` hold the results row by row, and later places are unchanged; `*moved_e` is e + k, the e of the
- * unit of the moved sheet. Each result is exact, and a zero keeps its sign.
+ * Moves a sheet to another time unit: every number but the weights times 2^k, for k from -512 to 512. Accepted: the
+ * first n * n places of `area` hold the results row by row, in reading 3 the next n the weights with their bits, and
+ * later places are unchanged; `*moved_e` is e + k, the e of the unit of the moved sheet. Each result is exact, and a
+ * zero keeps its sign.
  *
  * The numbers of a sheet are rates, so from seconds, e = 0, to a clock that ticks 1,024 times a second k is -10: a
  * rate per tick is the rate per second divided by 1,024. The table of the moved sheet counts ticks, 1,024 to the

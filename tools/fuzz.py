@@ -6,8 +6,9 @@
 makes N calls of each export (10,000 if not said) in this process and compares the number returned, every out
 place and every place of every lent area, before and after, bit for bit (`tools/hosts.py`).  The calls depend
 on the seed alone.  A line for each export says how many calls had which answer.  Exit status 1 at the first
-difference, which is printed with its call, or if a refusal of an export, or an accepted sheet with idle stages
-where it makes seconds, never came up in 10,000 calls or more.
+difference, which is printed with its call, or if a refusal of an export, an accepted sheet with idle stages where it
+makes seconds, or, but for one column, a sheet with weights that is accepted and one that is refused for its weights
+where it looks at them, never came up in 10,000 calls or more.
 
 Then it tries as many times each law that joins several calls, on what the library itself wrote: moving units commutes
 with the services, and two moves are one (document 02, U9).  A line for each law says how often which case came up;
@@ -29,7 +30,7 @@ from typing import Callable, NamedTuple, Sequence
 
 from hosts import PLACES, TEXT_BYTES, Calls, Difference, Library, Told, declared
 import reference
-from reference import FURTHEST_POWER, LARGEST, POWERS_OUT_OF_RANGE, SMALLEST_NORMAL, bits_of
+from reference import FURTHEST_POWER, LARGEST, POWERS_OUT_OF_RANGE, READINGS, SMALLEST_NORMAL, bits_of
 
 HUGE = [2 ** 32, 2 ** 63, 2 ** 64 - 1]
 
@@ -59,7 +60,7 @@ def edge_number(rng: random.Random) -> float:
 
 
 def edge_sheet(rng: random.Random, reading: int, n: int) -> list[float]:
-    """A sheet of such numbers, some of them zero; stages may be trapped or not kept."""
+    """A sheet of such numbers, some of them zero, with weights, some of them 1; stages may be trapped or not kept."""
     few = [edge_number(rng) for _ in range(rng.randint(1, 3))]
 
     def number(i: int, j: int) -> float:
@@ -67,7 +68,8 @@ def edge_sheet(rng: random.Random, reading: int, n: int) -> list[float]:
             return reference.random_zero(rng)
         return rng.choice(few) if i == j else -rng.choice(few)
 
-    return [number(i, j) for i in range(n) for j in range(n)]
+    weights = [rng.choice([1.0, *few]) for _ in range(n)] if reading == reference.WEIGHTS else []
+    return [number(i, j) for i in range(n) for j in range(n)] + weights
 
 
 def trapped_sheet(rng: random.Random, n: int) -> list[float]:
@@ -166,13 +168,13 @@ def some_numbers(rng: random.Random, reading: int, n: int, for_column: bool = Fa
 
 def some_sheet(rng: random.Random, for_column: bool = False) -> Sheet:
     """A sheet to make seconds of, as a caller may lend it."""
-    reading, n = 1 if for_column else rng.choice([1, 2]), some_n(rng)
+    reading, n = 1 if for_column else rng.choice(READINGS), some_n(rng)
     return lent(rng, reading, n, some_numbers(rng, reading, n, for_column))
 
 
 def sheet_to_move(rng: random.Random) -> Sheet:
     """A sheet to move, as a caller may lend it: of rates about any power of two, or one to make seconds of."""
-    reading, n = rng.choice([1, 2]), some_n(rng)
+    reading, n = rng.choice(READINGS), some_n(rng)
     make = reference.sheet_to_move if rng.random() < 0.6 else some_numbers
     return lent(rng, reading, n, make(rng, reading, n))
 
@@ -183,9 +185,9 @@ def lent(rng: random.Random, reading: int, n: int, numbers: Sequence[float]) -> 
     if rng.random() < 0.2:
         words = damaged(rng, words)
     if rng.random() < 0.03:
-        words = rng.choice([words[:-1], words + [0], [], words * 2])
+        words = rng.choice([words[:-1], words + [0], [], words * 2, words[:n * n], words + words[:n]])
     if rng.random() < 0.03:
-        reading = rng.choice([0, 3, 3 - reading if reading < 3 else 0, *HUGE])
+        reading = rng.choice([0, 4, *READINGS, *HUGE])
     if rng.random() < 0.03:
         n = rng.choice([0, 33, n - 1, n + 1, *HUGE])
     return Sheet(reading, n, some_unit(rng), words)
@@ -215,7 +217,7 @@ def some_stage(rng: random.Random, n: int) -> int:
     return rng.randint(1, min(max(n, 1), 32))
 
 
-def some_power(rng: random.Random, words: Sequence[int]) -> int:
+def some_power(rng: random.Random, n: int, words: Sequence[int]) -> int:
     """A k to move a sheet by: mostly in its range, and then often one that brings a number of the sheet to an end of
     the range of results or one power of two to either side of it; at times out of its range, also by far."""
     kind = rng.random()
@@ -223,7 +225,7 @@ def some_power(rng: random.Random, words: Sequence[int]) -> int:
         return rng.choice(POWERS_OUT_OF_RANGE)
     if kind < 0.12:
         return rng.choice([-512, -511, -10, 0, 10, 511, 512])
-    return reference.random_power(rng, [reference.number_of(word) for word in words])
+    return reference.random_power(rng, n, [reference.number_of(word) for word in words])
 
 
 def some_prices(rng: random.Random, sheet: Sheet) -> list[int]:
@@ -231,7 +233,7 @@ def some_prices(rng: random.Random, sheet: Sheet) -> list[int]:
     side of the edge of acceptance; some damaged, or not n in number."""
     n, kind = min(sheet.n, 33), rng.random()
     numbers = [edge_number(rng) for _ in range(n)] if kind < 0.2 else reference.random_prices(rng, n)
-    if kind > 0.98 and 1 <= n <= 3 and len(sheet.words) == n * n:
+    if kind > 0.98 and 1 <= n <= 3 and len(sheet.words) == reference.sheet_length(sheet.reading, n):
         pair = reference.price_edge_pair(rng, sheet.reading, n, [reference.number_of(word) for word in sheet.words],
                                          numbers)
         numbers = rng.choice(pair) if pair else numbers
@@ -249,19 +251,25 @@ def some_room(rng: random.Random, needed: int) -> int:
     return needed + (0 if kind < 0.4 else rng.choice([1, 2, 7, 40]) if kind < 0.97 else PLACES)
 
 
+def room_for_sheet(rng: random.Random, reading: int, n: int) -> int:
+    """The length of an area for a sheet: mostly enough, and at times without room for the weights."""
+    needed = reference.sheet_length(reading, min(n, 33))
+    return min(n, 33) ** 2 if rng.random() < 0.02 else some_room(rng, needed)
+
+
 # ==== Files ====
 
 def some_file(rng: random.Random) -> bytes:
     """A sheet file: of a sheet or of any words; most are whole."""
-    n = some_n(rng, 6)
+    n, reading = some_n(rng, 6), rng.choice(READINGS)
     if rng.random() < 0.5:
-        reading = rng.choice([1, 2])
         words = [bits_of(x) for x in some_numbers(rng, reading, n)]
     else:
-        reading = rng.choice([0, 1, 1, 2, 2, 2, 3]) if rng.random() < 0.3 else rng.choice([1, 2])
-        words = [rng.choice([rng.getrandbits(64), 0x7ff0000000000001, 0xfff8000000000000]) for _ in range(n * n)]
-    data = head_of_file(rng, reading, n) + reference.make_rows(n, words)
-    return data if rng.random() < 0.35 else damaged_file(rng, data, n)
+        reading = rng.choice([0, 4]) if rng.random() < 0.09 else reading
+        words = [rng.choice([rng.getrandbits(64), 0x7ff0000000000001, 0xfff8000000000000])
+                 for _ in range(reference.sheet_length(reading, n))]
+    data = head_of_file(rng, reading, n) + reference.make_records(reading, n, words)
+    return data if rng.random() < 0.35 else damaged_file(rng, data)
 
 
 def head_of_file(rng: random.Random, reading: int, n: int) -> bytes:
@@ -272,11 +280,10 @@ def head_of_file(rng: random.Random, reading: int, n: int) -> bytes:
     return reference.make_head(reading, n, unit)
 
 
-def damaged_file(rng: random.Random, data: bytes, n: int) -> bytes:
-    """A file that is cut, longer, has a field changed, or its rows exchanged."""
-    row = 8 * n + 8
-    head = len(data) - n * row
-    kind = rng.randrange(6)
+def damaged_file(rng: random.Random, data: bytes) -> bytes:
+    """A file that is cut, longer, has a field changed, or has records that are exchanged, missing, twice there or
+    weights that are not due."""
+    records, kind = reference.records_of(data), rng.randrange(6)
     if kind == 0:
         return data[:rng.randrange(len(data))]
     if kind == 1:
@@ -285,41 +292,55 @@ def damaged_file(rng: random.Random, data: bytes, n: int) -> bytes:
         at = rng.randrange(len(data))
         return data[:at] + bytes([data[at] ^ 1 << rng.randrange(8)]) + data[at + 1:]
     if kind == 3:
-        first, second = (data[head + row * k:head + row * (k + 1)] for k in (rng.randrange(n), rng.randrange(n)))
-        return data[:head] + first + second + data[head + 2 * row:]
-    start = rng.choice([0] + [head + row * k for k in range(n)])
-    own_fields = [(at, "<H") for at in range(8, head, 2)] if start == 0 else []
-    at, form = rng.choice([(0, "<I"), (4, "<H"), (6, "<H"), *own_fields])
-    old = struct.unpack_from(form, data, start + at)[0]
-    new = rng.choice([0, 1, 2, 3, 4, 5, 6, 7, 32, 33, 512, 513, -512, -513, old + 1, old - 1, old + 8, 8455, 8456,
+        head, *rest = records
+        i, j = rng.randrange(len(rest)), rng.randrange(len(rest))
+        weights = reference.record(reference.SHEET_WEIGHTS, rest[0][8:])
+        return head + b"".join(rng.choice([
+            [*rest[:i], rest[j], *rest[i + 1:]], [*rest[:i], *rest[i + 1:]], [*rest, rest[i]], [*rest, weights],
+            [*rest[:i], weights, *rest[i:]], [*rest[:i], weights, *rest[i + 1:]]]))
+    at = rng.randrange(len(records))
+    start, record = len(b"".join(records[:at])), records[at]
+    own_fields = [(place, "<H") for place in range(8, len(record), 2)] if at == 0 else []
+    place, form = rng.choice([(0, "<I"), (4, "<H"), (6, "<H"), *own_fields])
+    old = struct.unpack_from(form, record, place)[0]
+    new = rng.choice([0, 1, 2, 3, 4, 5, 6, 7, 32, 33, 512, 513, -512, -513, old + 1, old - 1, old + 8, 8717, 8718,
                       2 ** 16 - 1, 2 ** 32 - 1])
     changed = bytearray(data)
-    struct.pack_into(form, changed, start + at, new % (2 ** 32 if form == "<I" else 2 ** 16))
+    struct.pack_into(form, changed, start + place, new % (2 ** 32 if form == "<I" else 2 ** 16))
     return bytes(changed) + bytes(rng.choice([0, 0, 9000]))
 
 
 # ==== The exports ====
 
 class Outcome(NamedTuple):
-    """What came of a call: 0 or the number of the refusal, and whether the call is accepted with idle stages."""
+    """What came of a call: 0 or the number of the refusal, and whether the sheet is accepted with weights, refused
+    for them, as row n + 1, or accepted with idle stages."""
     number: int
+    weights: bool = False
+    at_weights: bool = False
     idle: bool = False
 
 
 Call = Callable[[Calls, random.Random], Outcome]
 
 
-def outcome(number: int, reading: int, n: int, words: Sequence[int]) -> Outcome:
-    """The outcome of a call that makes seconds of this sheet."""
-    numbers = [reference.number_of(word) for word in words]
-    return Outcome(number, number == 0 and len(reference.live_stages(reading, n, numbers)) < n)
+def outcome(told: Told, reading: int, n: int) -> Outcome:
+    """The outcome of a call on a sheet."""
+    number, row, _ = told
+    return Outcome(number, number == 0 and reading == reference.WEIGHTS, number != 0 and row == n + 1)
+
+
+def outcome_of_times(told: Told, reading: int, n: int, words: Sequence[int]) -> Outcome:
+    """The same of a call that makes seconds of this sheet."""
+    came, numbers = outcome(told, reading, n), [reference.number_of(word) for word in words]
+    return came._replace(idle=came.number == 0 and len(reference.live_stages(reading, n, numbers)) < n)
 
 
 def call_table(calls: Calls, rng: random.Random) -> Outcome:
     """The whole table."""
     sheet = some_sheet(rng)
     told = calls.table(sheet.reading, sheet.n, sheet.e, sheet.words, some_room(rng, min(sheet.n, 33) ** 2))
-    return outcome(told[0], sheet.reading, sheet.n, sheet.words)
+    return outcome_of_times(told, sheet.reading, sheet.n, sheet.words)
 
 
 def call_entry(calls: Calls, rng: random.Random) -> Outcome:
@@ -327,7 +348,7 @@ def call_entry(calls: Calls, rng: random.Random) -> Outcome:
     sheet = some_sheet(rng)
     i, j = some_stage(rng, sheet.n), some_stage(rng, sheet.n)
     told = calls.entry(sheet.reading, sheet.n, sheet.e, sheet.words, i, j)
-    return outcome(told[0], sheet.reading, sheet.n, sheet.words)
+    return outcome_of_times(told, sheet.reading, sheet.n, sheet.words)
 
 
 def call_column(calls: Calls, rng: random.Random) -> Outcome:
@@ -335,7 +356,7 @@ def call_column(calls: Calls, rng: random.Random) -> Outcome:
     sheet = some_sheet(rng, for_column=True)
     stage = some_stage(rng, sheet.n)
     told = calls.column(sheet.reading, sheet.n, sheet.e, sheet.words, stage, some_room(rng, min(sheet.n, 33)))
-    return outcome(told[0], sheet.reading, sheet.n, sheet.words)
+    return outcome_of_times(told, sheet.reading, sheet.n, sheet.words)
 
 
 def call_prices(calls: Calls, rng: random.Random) -> Outcome:
@@ -343,15 +364,15 @@ def call_prices(calls: Calls, rng: random.Random) -> Outcome:
     sheet = some_sheet(rng)
     prices = some_prices(rng, sheet)
     told = calls.prices(sheet.reading, sheet.n, sheet.e, sheet.words, prices, some_room(rng, min(sheet.n, 33)))
-    return outcome(told[0], sheet.reading, sheet.n, sheet.words)
+    return outcome_of_times(told, sheet.reading, sheet.n, sheet.words)
 
 
 def reader(name: str) -> Call:
     """One of the two readers of files."""
     def call(calls: Calls, rng: random.Random) -> Outcome:
         data = some_file(rng)
-        n = data[8] if len(data) > 8 else 1
-        return Outcome(calls.read(name, data, some_room(rng, min(n, 33) ** 2))[0])
+        reading, n = (data[6], data[8]) if len(data) > 8 else (1, 1)
+        return outcome(calls.read(name, data, room_for_sheet(rng, reading, n)), reading, n)
     return call
 
 
@@ -368,19 +389,21 @@ def writer(name: str) -> Call:
     """One of the two writers of files."""
     def call(calls: Calls, rng: random.Random) -> Outcome:
         sheet = saved_sheet(rng)
-        needed = reference.file_length(min(sheet.n, 33))
+        needed = reference.file_length(sheet.reading, min(sheet.n, 33))
         kind = rng.random()
         room = (rng.choice([0, 9, needed - 1, rng.randrange(needed)]) if kind < 0.06
                 else needed + (0 if kind < 0.5 else rng.choice([1, 2, 7, 40, 9000])))
-        return Outcome(calls.save(name, sheet.reading, sheet.n, sheet.e, sheet.words, room)[0])
+        told = calls.save(name, sheet.reading, sheet.n, sheet.e, sheet.words, room)
+        return outcome(told, sheet.reading, sheet.n)
     return call
 
 
 def call_move(calls: Calls, rng: random.Random) -> Outcome:
     """A sheet moved to another time unit."""
     sheet = sheet_to_move(rng)
-    k, room = some_power(rng, sheet.words), some_room(rng, min(sheet.n, 33) ** 2)
-    return Outcome(calls.move(sheet.reading, sheet.n, unit_to_move(rng, k), sheet.words, k, room)[0])
+    k, room = some_power(rng, sheet.n, sheet.words), room_for_sheet(rng, sheet.reading, sheet.n)
+    told = calls.move(sheet.reading, sheet.n, unit_to_move(rng, k), sheet.words, k, room)
+    return outcome(told, sheet.reading, sheet.n)
 
 
 def call_report(calls: Calls, rng: random.Random) -> Outcome:
@@ -388,10 +411,13 @@ def call_report(calls: Calls, rng: random.Random) -> Outcome:
     room = TEXT_BYTES + rng.choice([0, 0, 1, 100]) if rng.random() < 0.98 else rng.choice([0, 1, TEXT_BYTES - 1])
     data = some_file(rng)
     text = calls.report(data, room).split()
-    if text and text[0] == b"seconds":
+    if not text:
+        return Outcome(0)
+    if text[0] == b"seconds":
         sheet = reference.load(data, PLACES)
-        return outcome(0, sheet.reading, sheet.n, sheet.words)
-    return Outcome(int(text[1]) if text else 0)
+        return outcome_of_times((0, 0, 0), sheet.reading, sheet.n, sheet.words)
+    number, row, column = (int(word) for word in text[1:])
+    return outcome((number, row, column), reference.WEIGHTS, data[8] if len(data) > 8 else 0)
 
 
 # Each export with the refusals that it can answer; those that can answer 9 make seconds of a sheet.
@@ -410,10 +436,14 @@ EXPORTS: dict[str, tuple[Call, set[int]]] = {
 
 
 def fuzz(library: Library, name: str, count: int, seed: int) -> bool:
-    """So many calls of one export; whether all agreed, and every refusal and idle stages came up."""
+    """So many calls of one export; whether all agreed, and every refusal, idle stages and weights came up."""
     call, refusals = EXPORTS[name]
     seen: Counter[int] = Counter()
-    idle = 0
+    kinds = {"idle": "accepted with idle stages"} if 9 in refusals else {}
+    if name != "yulanbowls_column":
+        kinds["weights"] = "accepted with weights"
+        kinds |= {"at_weights": "refused for weights"} if refusals & {6, 13} else {}
+    of_kind = dict.fromkeys(kinds, 0)
     began = time.monotonic()
     for at in range(count):
         rng = random.Random(f"{seed} {name} {at}")
@@ -423,14 +453,15 @@ def fuzz(library: Library, name: str, count: int, seed: int) -> bool:
             print(f"{name}: call {at} of seed {seed}: {difference}", flush=True)
             return False
         seen[came.number] += 1
-        idle += came.idle
+        for kind in kinds:
+            of_kind[kind] += getattr(came, kind)
     answers = ", ".join(f"{number} {seen[number]}" for number in sorted(seen) if number)
-    with_idle = f", {idle} with idle stages" if 9 in refusals else ""
+    among = "".join(f", {words} {of_kind[kind]}" for kind, words in kinds.items())
     rate = count / (time.monotonic() - began)
-    print(f"{name}: {count} calls agree ({rate:.0f} a second); accepted {seen[0]}{with_idle}; refused: {answers}",
+    print(f"{name}: {count} calls agree ({rate:.0f} a second); accepted {seen[0]}; refused: {answers}{among}",
           flush=True)
     missing = [f"refused with {number}" for number in sorted(refusals - set(seen))]
-    missing += ["accepted with idle stages"] if with_idle and not idle else []
+    missing += [words for kind, words in kinds.items() if not of_kind[kind]]
     if missing and count >= 10000:
         print(f"{name}: never {', '.join(missing)}", flush=True)
     return not (missing and count >= 10000)
@@ -451,12 +482,13 @@ def unit_from(rng: random.Random, *moves: int) -> int:
     return rng.randint(least, most) if least <= most else 0
 
 
-def same_times_back(service: str, k: int, numbers: int, seen: Counter[str], first: tuple[Told, Sequence[int]],
-                    second: tuple[Told, Sequence[int]]) -> None:
+def same_times_back(service: str, reading: int, k: int, numbers: int, seen: Counter[str],
+                    first: tuple[Told, Sequence[int]], second: tuple[Told, Sequence[int]]) -> None:
     """Two calls of a service, by what they told and left: on a sheet, and on the sheet moved by 2^k.  If both are
     accepted, the second's first numbers are the first's divided by 2^k, and what else is handed over is the same."""
     accepted = [told[0] == 0 for told, _ in (first, second)]
-    seen[f"{service}: " + ("both accepted" if all(accepted) else "one alone" if any(accepted) else "none")] += 1
+    both = "both accepted" if all(accepted) else "one alone" if any(accepted) else "none"
+    seen[f"{service}, reading {reading}: {both}"] += 1
     if all(accepted):
         (_, before), (_, after) = first, second
         agree(list(after[:numbers]), reference.divided(before[:numbers], k), f"{service} of the moved sheet")
@@ -465,13 +497,13 @@ def same_times_back(service: str, k: int, numbers: int, seen: Counter[str], firs
 
 def try_commuting(calls: Calls, rng: random.Random, seen: Counter[str]) -> None:
     """Moving units commutes with the services."""
-    reading, n = rng.choice([1, 2]), some_n(rng, 6)
+    reading, n = rng.choice(READINGS), some_n(rng, 6)
     numbers, k = reference.sheet_to_commute(rng, reading, n)
     sheet, e = [bits_of(x) for x in numbers], unit_from(rng, k)
-    if calls.move(reading, n, e, sheet, k, n * n)[0]:
+    if calls.move(reading, n, e, sheet, k, len(sheet))[0]:
         seen["not moved"] += 1
         return
-    moved, moved_e = calls.left[:n * n], e + k
+    moved, moved_e = calls.left[:len(sheet)], e + k
     if rng.random() < 0.5:      # the other way round
         sheet, e, k, moved, moved_e = list(moved), moved_e, -k, sheet, e
     i, j, prices = rng.randint(1, n), rng.randint(1, n), [bits_of(x) for x in reference.random_prices(rng, n)]
@@ -483,21 +515,21 @@ def try_commuting(calls: Calls, rng: random.Random, seen: Counter[str]) -> None:
     for service, (count, call) in services.items():
         first = call(e, sheet), calls.left
         second = call(moved_e, moved), calls.left
-        same_times_back(service, k, count, seen, first, second)
+        same_times_back(service, reading, k, count, seen, first, second)
 
 
 def try_two_moves(calls: Calls, rng: random.Random, seen: Counter[str]) -> None:
     """Two moves are one: the second move and the single one, lent areas with the same contents, leave them equal, and
     the same e."""
-    reading, n = rng.choice([1, 2]), some_n(rng, 6)
+    reading, n = rng.choice(READINGS), some_n(rng, 6)
     numbers = reference.sheet_to_move(rng, reading, n)
-    a = reference.random_power(rng, numbers)
-    b = rng.choice([-a, reference.random_power(rng, numbers) - a, rng.randint(-FURTHEST_POWER, FURTHEST_POWER)])
+    a = reference.random_power(rng, n, numbers)
+    b = rng.choice([-a, reference.random_power(rng, n, numbers) - a, rng.randint(-FURTHEST_POWER, FURTHEST_POWER)])
     sheet, e = [bits_of(x) for x in numbers], unit_from(rng, a, b)
-    if calls.move(reading, n, e, sheet, a, n * n)[0]:
+    if calls.move(reading, n, e, sheet, a, len(sheet))[0]:
         seen["the first refused"] += 1
         return
-    moved, room, state = calls.left[:n * n], n * n + rng.choice([0, 3, 40]), rng.getstate()
+    moved, room, state = calls.left[:len(sheet)], len(sheet) + rng.choice([0, 3, 40]), rng.getstate()
     told, left = calls.move(reading, n, e + a, moved, b, room), calls.left
     if told[0]:
         seen["the second refused"] += 1
@@ -508,17 +540,19 @@ def try_two_moves(calls: Calls, rng: random.Random, seen: Counter[str]) -> None:
         seen["a + b out of range"] += 1
         agree(alone, (15, 0, 0), "the single move")
         return
-    seen["one move"] += 1
+    seen[f"one move, reading {reading}"] += 1
     agree((alone, calls.left), ((0, 0, 0), left), "the single move and what it left")
 
 
 ACCEPTANCE = ["both accepted", "one alone", "none"]
 
-# Each law with the cases that have to come up.
+# Each law with the cases that have to come up; one column is for reading 1 alone.
 LAWS: dict[str, tuple[Callable[[Calls, random.Random, Counter[str]], None], set[str]]] = {
-    "moving_commutes": (try_commuting, {"not moved", *(
-        f"{service}: {case}" for service in ("table", "entry", "column", "prices") for case in ACCEPTANCE)}),
-    "two_moves": (try_two_moves, {"the first refused", "the second refused", "a + b out of range", "one move"}),
+    "moving_commutes": (try_commuting, {"not moved", *(f"column, reading 1: {case}" for case in ACCEPTANCE), *(
+        f"{service}, reading {reading}: {case}" for service in ("table", "entry", "prices") for reading in READINGS
+        for case in ACCEPTANCE)}),
+    "two_moves": (try_two_moves, {"the first refused", "the second refused", "a + b out of range", *(
+        f"one move, reading {reading}" for reading in READINGS)}),
 }
 
 

@@ -28,7 +28,7 @@ HEADER = ROOT / "include" / "yulanbowls.h"
 ARCHIVE = ROOT / "target" / "staticlib" / "libhosts.a"
 CC = shlex.split(os.environ.get("CC", "cc"))
 TEXT_BYTES = 32768
-PLACES = 1024
+PLACES = reference.MOST_NUMBERS     # room for every sheet, and so for every table
 
 Told = tuple[int, int, int]     # number, row and column; zeros where a call is accepted
 

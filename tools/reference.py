@@ -22,12 +22,13 @@ from dataclasses import dataclass
 from fractions import Fraction
 from typing import Callable, Iterable, Optional, Sequence, TypeVar, Union
 
-LIMIT = 32                      # the most stages of a sheet
+LIMIT = 32                      # the most stages of a sheet, and so 32 × 32 the most numbers of a table
 SMALLEST_NORMAL = 2.0 ** -1022  # products and quotients of nonzero numbers stay above it
 LARGEST = sys.float_info.max
 FURTHEST_POWER = 512            # for k from -512 to 512 a sheet is moved by 2^k, and for such e its unit is 2^e seconds
 IN_SECONDS = 0                  # the e of a sheet in seconds
-LEAVING_RATES, MARGINS = 1, 2
+LEAVING_RATES, MARGINS, WEIGHTS = 1, 2, 3
+READINGS = (LEAVING_RATES, MARGINS, WEIGHTS)
 
 Row = list[float]
 Matrix = list[Row]
@@ -94,7 +95,8 @@ class Saved:
 
 @dataclass(frozen=True)
 class Moved:
-    """The numbers of a sheet in another time unit, row by row, and the e of that unit."""
+    """The numbers of a sheet in another time unit, row by row, then its weights, if it has any, as they were, and
+    the e of that unit."""
     numbers: list[float]
     e: int
 
@@ -141,7 +143,7 @@ def mul(x: float, y: float) -> float:
 
 
 def div(x: float, y: float) -> float:
-    """A quotient, rounded once; y is a pivot or an a_i and never zero."""
+    """A quotient, rounded once; y is a pivot, an a_i or a weight and never zero."""
     return checked(x / y, x != 0.0)
 
 
@@ -165,20 +167,28 @@ class Elimination:
     multipliers: Matrix
 
 
-def pivot(s_k: float, later_sizes: Sequence[float]) -> float:
-    """p_k: from plus zero, t_kj for j falling from n to k+1, and s_k last (02, U8)."""
-    return add(running_sum(0.0, reversed(later_sizes)), s_k)
+def pivot(s_k: float, later_sizes: Row, weights: Optional[Row]) -> float:
+    """p_k: from plus zero, t_kj for j falling from n to k+1, and s_k last (02, U8).
+
+    With the weights z_k to z_n, t_kj·z_j is added for t_kj, and the sum is divided by z_k (02, U10).  Each of these
+    products and the quotient is a step; without weights there are none, so weights of 1 are not the same.
+    """
+    if weights is None:
+        return add(running_sum(0.0, reversed(later_sizes)), s_k)
+    z_k, *later_weights = weights
+    products = [mul(t, z) for t, z in zip(later_sizes, later_weights, strict=True)]
+    return div(pivot(s_k, products, None), z_k)
 
 
-def eliminate(sizes: Matrix, leaving: Row) -> Elimination:
-    """The steps that serve every column: pivots, multipliers, s and t."""
+def eliminate(sizes: Matrix, leaving: Row, weights: Optional[Row] = None) -> Elimination:
+    """The steps that serve every column: pivots, multipliers, s and t; weights stand in the pivots alone."""
     r = len(leaving)
     t = [list(row) for row in sizes]
     s = list(leaving)
     p: list[float] = []
     m = [[0.0] * r for _ in range(r)]
     for k in range(r):
-        p.append(pivot(s[k], t[k][k + 1:]))
+        p.append(pivot(s[k], t[k][k + 1:], weights and weights[k:]))
         for i in range(k + 1, r):
             m[k][i] = div(t[i][k], p[k])
             s[i] = add(s[i], mul(m[k][i], s[k]))
@@ -206,9 +216,10 @@ def solve_column(elimination: Elimination, j: Optional[int]) -> list[float]:
     return [div(b[i], p[i]) for i in range(r)]
 
 
-def invert_leaving_rates(sizes: Matrix, leaving: Row) -> Matrix:
-    """The whole of the steps: x_ij = b_ij / p_i.  OutOfRange where some step leaves the range."""
-    elimination = eliminate(sizes, leaving)
+def invert_leaving_rates(sizes: Matrix, leaving: Row, weights: Optional[Row] = None) -> Matrix:
+    """The whole of the steps, those of leaving rates and, with weights, of reading 3: x_ij = b_ij / p_i.  OutOfRange
+    where some step leaves the range."""
+    elimination = eliminate(sizes, leaving, weights)
     columns = [solve_column(elimination, j) for j in range(len(leaving))]
     return [list(row) for row in zip(*columns)]
 
@@ -289,7 +300,25 @@ def join_stages_not_kept(x: Matrix, t: Matrix, a: Row, kept: list[int]) -> None:
         known = sorted(known + [k])
 
 
-# ==== The sheet and the questions (01, "The sheet and its two readings", "The questions, in order") ====
+# ==== The sheet and the questions (01, "The sheet and its two readings", "The questions, in order"; 02, U10) ====
+
+def sheet_length(reading: int, n: int) -> int:
+    """How many numbers a sheet has: n × n, and in reading 3 n weights after them."""
+    return n * n + (n if reading == WEIGHTS else 0)
+
+
+MOST_NUMBERS = sheet_length(WEIGHTS, LIMIT)
+
+
+def square(n: int, sheet: Sequence[T]) -> list[T]:
+    """The n × n numbers of a sheet, without the weights after them."""
+    return list(sheet[:n * n])
+
+
+def weights_of(reading: int, n: int, sheet: Sequence[T]) -> Optional[list[T]]:
+    """The weights z_j of a sheet of reading 3."""
+    return list(sheet[n * n:]) if reading == WEIGHTS else None
+
 
 def sheet_parts(n: int, sheet: Sequence[float]) -> tuple[Matrix, Row]:
     """The sizes t_ij (zero on the diagonal) and the diagonal parameters; either zero becomes plus zero."""
@@ -299,7 +328,7 @@ def sheet_parts(n: int, sheet: Sequence[float]) -> tuple[Matrix, Row]:
 
 def live_stages(reading: int, n: int, sheet: Sequence[float]) -> list[int]:
     """The stages that are not idle, in their order.  In reading 1 a stage whose row and column are all zero, the
-    diagonal included, is idle (02, U3); in reading 2 none is."""
+    diagonal included, is idle (02, U3); in readings 2 and 3 none is."""
     return [i for i in range(n) if reading != LEAVING_RATES
             or any(sheet[i * n + j] != 0.0 or sheet[j * n + i] != 0.0 for j in range(n))]
 
@@ -327,8 +356,8 @@ def own_rows(n: int, live: Sequence[int], matrix: Sequence[Sequence[T]], zero: T
 
 
 def allowance(reading: int, n: int) -> int:
-    """4n³ for leaving rates, 12n³ for margins; n counts idle stages too."""
-    return (4 if reading == LEAVING_RATES else 12) * n ** 3
+    """4n³ for leaving rates, 12n³ for margins, 6n³ with weights; n counts idle stages too."""
+    return {LEAVING_RATES: 4, MARGINS: 12, WEIGHTS: 6}[reading] * n ** 3
 
 
 def price_allowance(reading: int, n: int) -> int:
@@ -337,12 +366,12 @@ def price_allowance(reading: int, n: int) -> int:
 
 
 def ask_reading(reading: int) -> Optional[Refused]:
-    """Question 1: is the reading 1 or 2?"""
-    return None if reading in (LEAVING_RATES, MARGINS) else Refused(1)
+    """Question 1: is the reading 1, 2 or 3?"""
+    return None if reading in READINGS else Refused(1)
 
 
 def ask_leaving_rates(reading: int) -> Optional[Refused]:
-    """Question 1 for one column: is the reading 1?  (02, U2: "Reading 2 gets 1.")"""
+    """Question 1 for one column: is the reading 1?  (02, U2: "Reading 2 gets 1."; U10 admits 3 elsewhere.)"""
     return None if reading == LEAVING_RATES else Refused(1)
 
 
@@ -356,9 +385,9 @@ def ask_unit(e: int) -> Optional[Refused]:
     return None if -FURTHEST_POWER <= e <= FURTHEST_POWER else Refused(12)
 
 
-def ask_sheet_length(n: int, sheet: Sequence[object]) -> Optional[Refused]:
-    """Question 3: does the sheet hold exactly n × n numbers?"""
-    return None if len(sheet) == n * n else Refused(3)
+def ask_sheet_length(reading: int, n: int, sheet: Sequence[object]) -> Optional[Refused]:
+    """Question 3: does the sheet hold exactly n × n numbers, and in reading 3 n more?"""
+    return None if len(sheet) == sheet_length(reading, n) else Refused(3)
 
 
 def ask_area(needed: int, area_length: int) -> Optional[Refused]:
@@ -373,11 +402,12 @@ def ask_stages(n: int, *stages: int) -> Optional[Refused]:
 
 def first_bad_place(number: int, n: int, sheet: Sequence[float],
                     good: Callable[[float, bool], bool]) -> Optional[Refused]:
-    """Searches row by row for a number that is not good, given whether it stands on the diagonal."""
-    for i in range(n):
-        for j in range(n):
-            if not good(sheet[i * n + j], i == j):
-                return Refused(number, i + 1, j + 1)
+    """Searches row by row, the weights as row n + 1, for a number that is not good, given whether it stands for a
+    move, off the diagonal."""
+    for place, x in enumerate(sheet):
+        i, j = divmod(place, n)
+        if not good(x, i < n and i != j):
+            return Refused(number, i + 1, j + 1)
     return None
 
 
@@ -387,9 +417,10 @@ def ask_finite(n: int, sheet: Sequence[float]) -> Optional[Refused]:
 
 
 def ask_signs(reading: int, n: int, sheet: Sequence[float]) -> Optional[Refused]:
-    """Question 7: off-diagonals zero or negative, diagonals zero or positive (reading 1) or positive (reading 2)?"""
-    def good(x: float, diagonal: bool) -> bool:
-        if not diagonal:
+    """Question 7: off-diagonals zero or negative, diagonals zero or positive (reading 1) or positive (readings 2 and
+    3), weights positive?"""
+    def good(x: float, move: bool) -> bool:
+        if move:
             return x <= 0.0
         return x >= 0.0 if reading == LEAVING_RATES else x > 0.0
     return first_bad_place(7, n, sheet, good)
@@ -440,10 +471,10 @@ def times_power(x: float, k: int) -> Fraction:
     return Fraction(x) * Fraction(2) ** k
 
 
-def ask_results(sheet: Sequence[float], k: int) -> Optional[Refused]:
+def ask_results(n: int, sheet: Sequence[float], k: int) -> Optional[Refused]:
     """Question 16 (02, U4): is every exact result zero, or in size neither above the largest finite number nor
-    below 2^-1022?"""
-    sizes = [abs(times_power(x, k)) for x in sheet]
+    below 2^-1022?  Weights are not moved."""
+    sizes = [abs(times_power(x, k)) for x in square(n, sheet)]
     return None if all(size == 0 or SMALLEST_NORMAL <= size <= LARGEST for size in sizes) else Refused(16)
 
 
@@ -467,9 +498,10 @@ def invert(reading: int, n: int, sheet: Sequence[float]) -> Union[Matrix, Refuse
     """The table by its reading's steps, or question 10's no.  Idle stages are left out of the steps, and every
     entry in an idle row or column is plus zero."""
     live = live_stages(reading, n, sheet)
-    steps = invert_leaving_rates if reading == LEAVING_RATES else invert_margins
+    parts = live_parts(n, sheet, live)
     try:
-        x = steps(*live_parts(n, sheet, live))
+        x = (invert_margins(*parts) if reading == MARGINS
+             else invert_leaving_rates(*parts, weights_of(reading, n, sheet)))
     except OutOfRange:
         return Refused(10)
     return own_rows(n, live, x, 0.0)
@@ -477,7 +509,7 @@ def invert(reading: int, n: int, sheet: Sequence[float]) -> Union[Matrix, Refuse
 
 def ask_sheet(reading: int, n: int, e: int, sheet: Sequence[object]) -> Optional[Refused]:
     """Questions 1, 2, 12 and 3, in this order."""
-    return ask_reading(reading) or ask_size(n) or ask_unit(e) or ask_sheet_length(n, sheet)
+    return ask_reading(reading) or ask_size(n) or ask_unit(e) or ask_sheet_length(reading, n, sheet)
 
 
 def table(reading: int, n: int, e: int, sheet: Sequence[float], area_length: int) -> Union[Table, Refused]:
@@ -541,11 +573,11 @@ def request_prices(reading: int, n: int, e: int, sheet: Sequence[float], prices:
 
 
 def move(reading: int, n: int, e: int, sheet: Sequence[float], k: int, area_length: int) -> Union[Moved, Refused]:
-    """Every number times 2^k, which makes the unit 2^(e + k) seconds (02, U4 and U5): questions 1, 2, 12, 3, 4, 6,
-    7 and 8, then 15, 17 and 16, and no other."""
-    refusal = (ask_sheet(reading, n, e, sheet) or ask_area(n * n, area_length) or ask_places(reading, n, sheet)
-               or ask_power(k) or ask_new_unit(e, k) or ask_results(sheet, k))
-    return refusal or Moved([moved_number(x, k) for x in sheet], e + k)
+    """Every number times 2^k, which makes the unit 2^(e + k) seconds (02, U4 and U5), and the weights as they are
+    (02, U10): questions 1, 2, 12, 3, 4 for the whole sheet, 6, 7 and 8, then 15, 17 and 16, and no other."""
+    refusal = (ask_sheet(reading, n, e, sheet) or ask_area(len(sheet), area_length) or ask_places(reading, n, sheet)
+               or ask_power(k) or ask_new_unit(e, k) or ask_results(n, sheet, k))
+    return refusal or Moved([*(moved_number(x, k) for x in square(n, sheet)), *sheet[n * n:]], e + k)
 
 
 def moved_number(x: float, k: int) -> float:
@@ -557,26 +589,34 @@ def moved_number(x: float, k: int) -> float:
     return result
 
 
-# ==== The sheet file and the dwell program (01, "The sheet file"; 02, U5) ====
+# ==== The sheet file and the dwell program (01, "The sheet file"; 02, U5 and U10) ====
 
-HEAD, SHEET_ROW = 1, 2      # kinds of records
+HEAD, SHEET_ROW, SHEET_WEIGHTS = 1, 2, 3    # kinds of records
 LENGTH_AND_KIND = "<IH"     # what stands before the payload of a record, little-endian like all
 HEAD_PAYLOAD = "<HHh"       # reading, n and a signed e: what is written
 SHORT_HEAD_PAYLOAD = "<HH"  # document 01's head, which is still read: e is 0
 
 
-def row_payload(n: int) -> str:
-    """The row number, and the n numbers as 64-bit words."""
-    return f"<H{n}Q"
+def records_due(reading: int, n: int) -> list[tuple[int, bytes]]:
+    """The records after the head, in order: the kind of each, and what its payload has before n 64-bit words.  A row
+    has its number there, and the weights of reading 3, which are due as row n + 1, nothing."""
+    rows = [(SHEET_ROW, struct.pack("<H", row)) for row in range(1, n + 1)]
+    return [*rows, (SHEET_WEIGHTS, b"")] if reading == WEIGHTS else rows
 
 
-def file_length(n: int) -> int:
+def n_words(n: int) -> str:
+    """The form of n 64-bit words."""
+    return f"<{n}Q"
+
+
+def file_length(reading: int, n: int) -> int:
     """The bytes of the file of n stages that is written."""
-    before = struct.calcsize(LENGTH_AND_KIND)
-    return before + struct.calcsize(HEAD_PAYLOAD) + n * (before + struct.calcsize(row_payload(n)))
+    payloads = [struct.calcsize(HEAD_PAYLOAD)]
+    payloads += [len(before) + struct.calcsize(n_words(n)) for _, before in records_due(reading, n)]
+    return sum(struct.calcsize(LENGTH_AND_KIND) + payload for payload in payloads)
 
 
-LONGEST_FILE = file_length(LIMIT)
+LONGEST_FILE = file_length(WEIGHTS, LIMIT)
 
 
 def record(kind: int, payload: bytes) -> bytes:
@@ -594,29 +634,29 @@ def make_short_head(reading: int, n: int) -> bytes:
     return record(HEAD, struct.pack(SHORT_HEAD_PAYLOAD, reading, n))
 
 
-def make_rows(n: int, words: Sequence[int]) -> bytes:
-    """The rows of a file."""
-    return b"".join(record(SHEET_ROW, struct.pack(row_payload(n), i + 1, *words[i * n:(i + 1) * n]))
-                    for i in range(n))
+def make_records(reading: int, n: int, words: Sequence[int]) -> bytes:
+    """The records of a file after its head: its rows, and in reading 3 its weights."""
+    return b"".join(record(kind, before + struct.pack(n_words(n), *words[at * n:(at + 1) * n]))
+                    for at, (kind, before) in enumerate(records_due(reading, n)))
 
 
 def make_file_words(reading: int, n: int, e: int, words: Sequence[int]) -> bytes:
-    """The sheet file of n rows of 64-bit words in units of 2^e seconds."""
-    return make_head(reading, n, e) + make_rows(n, words)
+    """The sheet file of a sheet of 64-bit words in units of 2^e seconds."""
+    return make_head(reading, n, e) + make_records(reading, n, words)
 
 
 def make_file(reading: int, n: int, e: int, numbers: Sequence[float]) -> bytes:
-    """The sheet file of n rows of numbers."""
+    """The sheet file of a sheet of numbers."""
     return make_file_words(reading, n, e, [bits_of(x) for x in numbers])
 
 
 def make_short_file_words(reading: int, n: int, words: Sequence[int]) -> bytes:
-    """The sheet file by document 01 alone, whose head says no unit."""
-    return make_short_head(reading, n) + make_rows(n, words)
+    """The sheet file with document 01's head, which says no unit."""
+    return make_short_head(reading, n) + make_records(reading, n, words)
 
 
 def make_short_file(reading: int, n: int, numbers: Sequence[float]) -> bytes:
-    """The same of n rows of numbers."""
+    """The same of a sheet of numbers."""
     return make_short_file_words(reading, n, [bits_of(x) for x in numbers])
 
 
@@ -628,6 +668,12 @@ def read_record(data: bytes, at: int) -> Optional[tuple[int, bytes, int]]:
     length, kind = struct.unpack_from(LENGTH_AND_KIND, data, at)
     end = start + length
     return None if end > len(data) else (kind, data[start:end], end)
+
+
+def records_of(data: bytes) -> list[bytes]:
+    """The records of a file up to the first that misses bytes."""
+    found = read_record(data, 0)
+    return [data[:found[2]], *records_of(data[found[2]:])] if found else []
 
 
 def read_head(payload: bytes) -> Optional[tuple[int, int, int]]:
@@ -653,25 +699,23 @@ def load(data: bytes, area_length: int) -> Union[Loaded, Refused]:
         return Refused(12)
     reading, n, e = said
     words: list[int] = []
-    for row in range(1, n + 1):
-        due = read_record(data, at)
-        if due is None:
+    for row, (kind_due, before) in enumerate(records_due(reading, n), 1):
+        found = read_record(data, at)
+        if found is None:
             return Refused(11, row)
-        kind, payload, at = due
-        if kind != SHEET_ROW or len(payload) != struct.calcsize(row_payload(n)):
+        kind, payload, at = found
+        numbers = payload[len(before):]
+        if kind != kind_due or not payload.startswith(before) or len(numbers) != struct.calcsize(n_words(n)):
             return Refused(13, row)
-        own_number, *numbers = struct.unpack(row_payload(n), payload)
-        if own_number != row:
-            return Refused(13, row)
-        words += numbers
+        words += struct.unpack(n_words(n), numbers)
     if at != len(data):
         return Refused(14)
-    return ask_reading(reading) or ask_size(n) or ask_area(n * n, area_length) or Loaded(reading, n, e, words)
+    return ask_reading(reading) or ask_size(n) or ask_area(len(words), area_length) or Loaded(reading, n, e, words)
 
 
 def save(reading: int, n: int, e: int, words: Sequence[int], area_length: int) -> Union[Saved, Refused]:
     """Saving (02, U1 and U5): questions 1, 2, 12, 3, then 4, which asks for the bytes of the file, and no other."""
-    refusal = ask_sheet(reading, n, e, words) or ask_area(file_length(n), area_length)
+    refusal = ask_sheet(reading, n, e, words) or ask_area(file_length(reading, n), area_length)
     return refusal or Saved(make_file_words(reading, n, e, words))
 
 
@@ -682,7 +726,7 @@ def save_numbers(reading: int, n: int, e: int, sheet: Sequence[float], area_leng
 
 def table_of_stream(stream: bytes) -> Union[tuple[Loaded, Table], Refused]:
     """The sheet and table of a file; at most one byte more than the longest file is judged."""
-    sheet = load(stream[:LONGEST_FILE + 1], LIMIT * LIMIT)
+    sheet = load(stream[:LONGEST_FILE + 1], MOST_NUMBERS)
     if isinstance(sheet, Refused):
         return sheet
     answer = table(sheet.reading, sheet.n, sheet.e, sheet.numbers, LIMIT * LIMIT)
@@ -706,7 +750,7 @@ def refused_line(refusal: Refused) -> str:
     return f"refused {refusal.number} {refusal.row} {refusal.column}\n"
 
 
-# ==== The exact side (01, "The sheet and its two readings", the accuracy rule) ====
+# ==== The exact side (01, "The sheet and its two readings", the accuracy rule; 02, U10) ====
 
 Quotient = tuple[int, int]      # numerator and positive denominator, compared by multiplying across
 Inverse = list[list[Quotient]]
@@ -714,17 +758,20 @@ FractionMatrix = list[list[Fraction]]
 EXACT_MARGINS_LIMIT = 6         # the exact a_ii of margins double their digits with every stage
 
 
-def exact_diagonal(reading: int, t: FractionMatrix, diagonal: list[Fraction],
-                   trim: Callable[[Fraction], Fraction]) -> list[Fraction]:
-    """The exact a_ii; for margins every k_i = h_i / a_ii is trimmed, which the exact matrix does not do."""
+def exact_from_row_sums(t: FractionMatrix, s: list[Fraction], z: list[Fraction]) -> list[Fraction]:
+    """The exact a_ii for which s = Az: s_i plus all t_ij·z_j, divided by z_i.  The row sums of leaving rates are Az
+    with every weight 1."""
+    return [(s_i + sum(t_ij * z_j for t_ij, z_j in zip(row, z, strict=True))) / z_i
+            for row, s_i, z_i in zip(t, s, z, strict=True)]
+
+
+def exact_from_margins(t: FractionMatrix, d: list[Fraction], trim: Callable[[Fraction], Fraction]) -> list[Fraction]:
+    """The exact a_ii of margins; every k_i = h_i / a_ii is trimmed, which the exact matrix does not do."""
     a: list[Fraction] = []
     k: list[Fraction] = []
-    for i, parameter in enumerate(diagonal):
-        if reading == LEAVING_RATES:
-            a.append(parameter + sum(t[i]))
-            continue
+    for i, margin in enumerate(d):
         h = sum((t[i][j] * k[j] for j in range(i)), Fraction(0)) + sum(t[i][i + 1:], Fraction(0))
-        a.append(parameter + h)
+        a.append(margin + h)
         k.append(trim(h / a[i]))
     return a
 
@@ -732,9 +779,11 @@ def exact_diagonal(reading: int, t: FractionMatrix, diagonal: list[Fraction],
 def exact_matrix(reading: int, n: int, sheet: Sequence[float],
                  trim: Callable[[Fraction], Fraction] = lambda k: k) -> FractionMatrix:
     """The exact matrix A that the sheet stands for."""
-    sizes, diagonal = sheet_parts(n, sheet)
+    sizes, parameters = sheet_parts(n, sheet)
     t = [[Fraction(x) for x in row] for row in sizes]
-    a = exact_diagonal(reading, t, [Fraction(x) for x in diagonal], trim)
+    diagonal = [Fraction(x) for x in parameters]
+    weights = [Fraction(z) for z in weights_of(reading, n, sheet) or [1.0] * n]
+    a = exact_from_margins(t, diagonal, trim) if reading == MARGINS else exact_from_row_sums(t, diagonal, weights)
     return [[a[i] if i == j else -t[i][j] for j in range(n)] for i in range(n)]
 
 
@@ -929,7 +978,7 @@ def price_accuracy(reading: int, n: int, sheet: Sequence[float], prices: Sequenc
 class Style:
     """What a random sheet looks like: share of nonzero moves, binary orders that the rates spread to
     either side of 1, binary orders by which the diagonal stays below them, share of nonzero leaving
-    rates (reading 1) or of stages not kept (reading 2)."""
+    rates (reading 1), of stages not kept (reading 2) or of weights that are 1 (reading 3)."""
     density: float
     spread: int
     below: int
@@ -957,12 +1006,13 @@ def random_zero(rng: random.Random) -> float:
 def random_sheet(rng: random.Random, reading: int, n: int, style: Style) -> list[float]:
     """A sheet that questions 6 to 9 pass."""
     moves = [[j != i and rng.random() < style.density for j in range(n)] for i in range(n)]
+    chosen = [rng.random() < style.share for _ in range(n)]
     positive = [True] * n
     if reading == LEAVING_RATES:
-        positive = [rng.random() < style.share for _ in range(n)]
+        positive = chosen
         let_out(rng, moves, positive)
-    else:
-        drop_stages(moves, [rng.random() < style.share for _ in range(n)])
+    elif reading == MARGINS:
+        drop_stages(moves, chosen)
     sheet = []
     for i in range(n):
         for j in range(n):
@@ -970,6 +1020,8 @@ def random_sheet(rng: random.Random, reading: int, n: int, style: Style) -> list
                 sheet.append(random_size(rng, style.spread, style.below) if positive[i] else random_zero(rng))
             else:
                 sheet.append(-random_size(rng, style.spread) if moves[i][j] else random_zero(rng))
+    if reading == WEIGHTS:
+        sheet += [1.0 if one else random_size(rng, style.spread) for one in chosen]
     return sheet
 
 
@@ -998,29 +1050,41 @@ def any_sheet(rng: random.Random, n: int) -> list[float]:
     sheet = uneven_sheet(rng, n) if rng.random() < 0.4 else random_sheet(rng, LEAVING_RATES, n, random_style(rng))
     if rng.random() < 0.3:
         return [x if rng.random() < 0.3 else random_zero(rng) for x in sheet]
-    if rng.random() < 0.3:
-        sheet[rng.randrange(n * n)] = rng.choice([math.nan, math.inf, 1.0, -1.0, 2.0 ** -1074, -2.0 ** -1074])
-    return sheet
+    return spoilt(rng, sheet) if rng.random() < 0.3 else sheet
+
+
+def spoilt(rng: random.Random, sheet: Sequence[float]) -> list[float]:
+    """A sheet with one number, at any place, that questions 6 to 8 may refuse."""
+    place = rng.randrange(len(sheet))
+    bad = rng.choice([math.nan, math.inf, 1.0, -1.0, 2.0 ** -1074, -2.0 ** -1074, 0.0, -0.0])
+    return [*sheet[:place], bad, *sheet[place + 1:]]
 
 
 def sheet_to_move(rng: random.Random, reading: int, n: int) -> list[float]:
     """A sheet that questions 6 to 8 pass, its rates about any power of two that a float holds, near to one another
-    or far apart; stages may be trapped or idle."""
+    or far apart, and its weights about another one; stages may be trapped or idle."""
     middle, spread, zeros = rng.randint(-1022, 1023), rng.choice([0, 0, 3, 100, 1000]), rng.choice([0.0, 0.3, 0.9])
+
+    def size(about: int) -> float:
+        order = min(max(about + rng.randint(-spread, spread), -1022), 1023)
+        return math.ldexp(random_size(rng, 0), order)
 
     def number(i: int, j: int) -> float:
         if rng.random() < zeros and (i != j or reading == LEAVING_RATES):
             return random_zero(rng)
-        order = min(max(middle + rng.randint(-spread, spread), -1022), 1023)
-        return math.copysign(math.ldexp(random_size(rng, 0), order), 1 if i == j else -1)
+        return math.copysign(size(middle), 1 if i == j else -1)
 
-    return [number(i, j) for i in range(n) for j in range(n)]
+    sheet = [number(i, j) for i in range(n) for j in range(n)]
+    if reading == WEIGHTS:
+        about = rng.randint(-1022, 1023)
+        sheet += [size(about) for _ in range(n)]
+    return sheet
 
 
-def random_power(rng: random.Random, sheet: Sequence[float]) -> int:
-    """A k from −512 to 512: mostly one that brings the least or the largest number of a sheet to an end of the range
-    of results, or one power of two to either side of it."""
-    orders = [math.frexp(x)[1] - 1 for x in sheet if x != 0.0]
+def random_power(rng: random.Random, n: int, sheet: Sequence[float]) -> int:
+    """A k from −512 to 512: mostly one that brings the least or the largest number that is moved to an end of the
+    range of results, or one power of two to either side of it."""
+    orders = [math.frexp(x)[1] - 1 for x in square(n, sheet) if x != 0.0]
     ends = [-1022 - min(orders), 1023 - max(orders)] if orders else []
     near = [k for end in ends for k in (end - 1, end, end + 1) if abs(k) <= FURTHEST_POWER]
     return rng.choice(near) if near and rng.random() < 0.6 else rng.randint(-FURTHEST_POWER, FURTHEST_POWER)
@@ -1031,14 +1095,15 @@ def sheet_to_commute(rng: random.Random, reading: int, n: int) -> tuple[list[flo
     kind = rng.random()
     if kind < 0.3:
         sheet = sheet_to_move(rng, reading, n)
-        return sheet, random_power(rng, sheet)
+        return sheet, random_power(rng, n, sheet)
     if kind < 0.5 and reading == LEAVING_RATES:
         sheet = uneven_sheet(rng, n)
     else:
         sheet = random_sheet(rng, reading, n, random_style(rng, rng.choice([3, 30, 300])))
     if kind > 0.8 and reading == LEAVING_RATES:
         sheet = [x if rng.random() < 0.3 else random_zero(rng) for x in sheet]
-    return sheet, rng.choice([-1, 1, -10, 10, rng.randint(-100, 100), rng.randint(-512, 512), random_power(rng, sheet)])
+    return sheet, rng.choice([-1, 1, -10, 10, rng.randint(-100, 100), rng.randint(-512, 512),
+                              random_power(rng, n, sheet)])
 
 
 def random_prices(rng: random.Random, n: int) -> list[float]:
@@ -1154,6 +1219,9 @@ P_PRINTED = """seconds 2 32 0
 2 1 3ff0000000000000
 2 2 4000000000000000
 """
+# With weights, by hand: A is [4, -1 | -1, 1.25], whose determinant is 4.
+W_SHEET = [2.0, -1.0, -1.0, 1.5, 1.0, 2.0]
+W_TABLE = [0.3125, 0.25, 0.25, 1.0]
 
 
 class Failed(Exception):
@@ -1163,6 +1231,12 @@ class Failed(Exception):
 def words_of(answer: Union[Refused, Sequence[float]]) -> Union[Refused, list[str]]:
     """A refusal, or the bits of each number in hexadecimal."""
     return answer if isinstance(answer, Refused) else [f"{bits_of(x):016x}" for x in answer]
+
+
+def in_reading(reading: int, numbers: Sequence[float]) -> list[float]:
+    """n × n numbers as a sheet of a reading: in reading 3 with good weights, at both ends of their range and 1."""
+    weights = [1.0, LARGEST, SMALLEST_NORMAL]
+    return [*numbers, *weights[:math.isqrt(len(numbers))]] if reading == WEIGHTS else list(numbers)
 
 
 def units_for_move(k: int) -> list[int]:
@@ -1192,9 +1266,9 @@ class Checks:
     def gives(self, what: str, reading: int, n: int, sheet: Sequence[float],
               expected: Union[Refused, list[float]]) -> None:
         """The whole table and each single entry give these bits, or both services this refusal.  So do the
-        columns for reading 1, unless a step is out of range; for reading 2 they are refused with 1."""
+        columns for reading 1, unless a step is out of range; for readings 2 and 3 they are refused with 1."""
         got = table(reading, n, self.unit(), sheet, n * n)
-        if reading == MARGINS:
+        if reading != LEAVING_RATES:
             self.equal(f"{what}, one column", column(reading, n, self.unit(), sheet, 1, n), Refused(1))
         if isinstance(expected, Refused):
             self.equal(what, got, expected)
@@ -1203,8 +1277,7 @@ class Checks:
                 self.equal(f"{what}, one column", column(reading, n, self.unit(), sheet, 1, n), expected)
             return
         self.true(f"{what}: {got}", isinstance(got, Table))
-        factor = 4 if reading == 1 else 12
-        self.equal(f"{what}, n and allowance", (got.n, got.allowance), (n, factor * n * n * n))
+        self.equal(f"{what}, n and allowance", (got.n, got.allowance), (n, (4, 12, 6)[reading - 1] * n * n * n))
         self.equal(what, words_of(got.entries), words_of(expected))
         for place, x in enumerate(expected):
             one = entry(reading, n, self.unit(), sheet, place // n + 1, place % n + 1)
@@ -1227,14 +1300,14 @@ class Checks:
             got = request_prices(reading, n, self.unit(), sheet, prices, room)
             self.equal(what, words_of(got.entries if isinstance(got, Prices) else got), words_of(expected))
             if isinstance(got, Prices):
-                self.equal(f"{what}, allowance", got.allowance, (4 if reading == 1 else 12) * n * n * n + n)
+                self.equal(f"{what}, allowance", got.allowance, (4, 12, 6)[reading - 1] * n * n * n + n)
 
     def moves(self, what: str, reading: int, n: int, sheet: Sequence[float], k: int,
               expected: Union[Refused, Sequence[float]]) -> None:
         """Moving by 2^k, with just enough room and with more, gives these bits and e + k, or this refusal, which is
         not 17."""
         units = units_for_move(k)
-        for room, e in ((n * n, units[0]), (n * n + 5, units[-1])):
+        for room, e in ((len(sheet), units[0]), (len(sheet) + 5, units[-1])):
             got = move(reading, n, e, sheet, k, room)
             self.equal(f"{what}, times 2^{k}", words_of(got.numbers if isinstance(got, Moved) else got),
                        words_of(expected))
@@ -1243,7 +1316,7 @@ class Checks:
 
 
 def test_document_sheets(check: Checks) -> None:
-    """All of "Sheets to try"; B and D as 02, U3 has them."""
+    """All of "Sheets to try"; B and D as 02, U3 has them; sheets with weights (02, U10)."""
     for name, reading, n, sheet, expected in [
             ("A", 1, 1, [2.0], [0.5]),
             ("B", 1, 1, [0.0], [0.0]),
@@ -1263,9 +1336,13 @@ def test_document_sheets(check: Checks) -> None:
             # -2^-1022 passes 8: here a quotient is then 2^-1022 itself, and here all steps are in range
             ("-2^-1022 off the diagonal", 1, 2, [1.0, -2.0 ** -1022, 0.0, 1.0], Refused(10, 0, 0)),
             ("-2^-1022, in range", 1, 2, [1.0, -2.0 ** -1022, 0.0, 2.0 ** -10],
-             [1.0, 2.0 ** -1012, 0.0, 2.0 ** 10])]:
+             [1.0, 2.0 ** -1012, 0.0, 2.0 ** 10]),
+            # with weights 1 a product is 2^-1022 itself
+            ("-2^-1022 with weights", 3, 2, [1.0, -2.0 ** -1022, 0.0, 2.0 ** -10, 1.0, 1.0], Refused(10, 0, 0)),
+            ("W", 3, 2, W_SHEET, W_TABLE), ("one stage with a weight", 3, 1, [2.0, 0.5], [0.25])]:
         check.gives(f"sheet {name}", reading, n, sheet, expected)
     check.equal("matrix of H", exact_matrix(2, 2, [3.0, -1.0, -4.0, 1.0]), [[4, -1], [-4, 2]])
+    check.equal("matrix of W", exact_matrix(3, 2, W_SHEET), [[4, -1], [-1, Fraction(5, 4)]])
 
 
 def test_order_and_places(check: Checks) -> None:
@@ -1282,22 +1359,84 @@ def test_order_and_places(check: Checks) -> None:
     check.gives("negative diagonal, margins", 2, 1, [-1.0], Refused(7, 1, 1))
     check.gives("lowest trapped stage", 1, 4, [0.0, 0.0, 0.0, -1.0, 0.0, 0.0, -1.0, 0.0,
                                                0.0, -1.0, 0.0, 0.0, 0.0, 0.0, 0.0, 1.0], Refused(9, 2, 0))
-    for reading in (0, 3, 2 ** 64 - 1):
+    for reading in (0, 4, 2 ** 64 - 1):
         check.equal("1 before 2", table(reading, 0, 513, [], 0), Refused(1))
         check.equal("1 before 2, entry", entry(reading, 0, 513, [], 0, 0), Refused(1))
-    for n in (0, 33, 2 ** 32, 2 ** 63, 2 ** 64 - 1):
-        check.equal("2 before 12", table(1, n, -513, [NAN], 0), Refused(2))
-        check.equal("2 before 12, entry", entry(2, n, 513, [NAN], 0, 0), Refused(2))
-    for length in (0, 1, 3, 5):
-        check.equal("3 before 4", table(1, 2, -512, [NAN] * length, 0), Refused(3))
-        check.equal("3 before 5", entry(1, 2, 512, [NAN] * length, 0, 0), Refused(3))
+    for reading in READINGS:
+        for n in (0, 33, 2 ** 32, 2 ** 63, 2 ** 64 - 1):
+            check.equal("2 before 12", table(reading, n, -513, [NAN], 0), Refused(2))
+            check.equal("2 before 12, entry", entry(reading, n, 513, [NAN], 0, 0), Refused(2))
+        for length in {0, 1, 3, 4, 5, 6, 7} - {6 if reading == 3 else 4}:
+            check.equal("3 before 4", table(reading, 2, -512, [NAN] * length, 0), Refused(3))
+            check.equal("3 before 5", entry(reading, 2, 512, [NAN] * length, 0, 0), Refused(3))
     check.equal("4 before 6", table(1, 1, 0, [NAN], 0), Refused(4))
-    check.equal("area one short", table(1, 2, -10, P_SHEET, 3), Refused(4))
-    check.true("a larger area", isinstance(table(1, 2, 10, P_SHEET, 2000), Table))
+    check.equal("4 before 6, weights", table(3, 1, 0, [NAN, NAN], 0), Refused(4))
+    for reading, sheet in ((1, P_SHEET), (3, W_SHEET)):
+        check.equal("area one short", table(reading, 2, -10, sheet, 3), Refused(4))
+        check.true("a larger area", isinstance(table(reading, 2, 10, sheet, 2000), Table))
     check.equal("5 before 6", entry(1, 1, 0, [NAN], 2, 1), Refused(5))
     for i, j in [(0, 1), (1, 0), (3, 1), (1, 3), (2 ** 64 - 1, 1), (1, 2 ** 64 - 1)]:
         check.equal("5", entry(1, 2, check.unit(), P_SHEET, i, j), Refused(5))
+        check.equal("5, weights", entry(3, 2, check.unit(), W_SHEET, i, j), Refused(5))
     check.equal("entry of a refused table", entry(1, 2, 0, [1.0, 0.0, 0.0, two_to_1022], 1, 1), Refused(10))
+
+
+def test_places_of_weights(check: Checks) -> None:
+    """Questions 6 to 8 with weights (02, U10): each of the whole sheet, weights included, before the next; a bad
+    weight stands at row n + 1, column j.  9 is not asked."""
+    tiny, good = 2.0 ** -1074, [1.0, -1.0, -1.0, 1.0]
+    for what, numbers, weights, expected in [
+            ("6 of a weight before 7", [0.0], [NAN], Refused(6, 2, 1)),
+            ("a weight that is zero", [2.0], [0.0], Refused(7, 2, 1)),
+            ("a weight that is minus zero", [2.0], [-0.0], Refused(7, 2, 1)),
+            ("a weight that is negative", [2.0], [-1.0], Refused(7, 2, 1)),
+            ("a weight that is infinite", [2.0], [INF], Refused(6, 2, 1)),
+            ("a weight that is minus infinite", [2.0], [-INF], Refused(6, 2, 1)),
+            ("a weight that is too small", [2.0], [tiny], Refused(8, 2, 1)),
+            ("a weight just too small", [2.0], [number_of(bits_of(SMALLEST_NORMAL) - 1)], Refused(8, 2, 1)),
+            ("a diagonal that is zero", [0.0], [1.0], Refused(7, 1, 1)),
+            ("a diagonal that is minus zero", [-0.0], [1.0], Refused(7, 1, 1)),
+            ("the diagonal before the weight", [0.0], [0.0], Refused(7, 1, 1)),
+            ("no idle stages", [1.0, 0.0, 0.0, 0.0], [1.0, 1.0], Refused(7, 2, 2)),
+            ("the first weight", good, [NAN, INF], Refused(6, 3, 1)),
+            ("the last weight", good, [1.0, -1.0], Refused(7, 3, 2)),
+            ("6 of the last weight before 7 of a row", [1.0, 1.0, 0.0, 1.0], [0.0, INF], Refused(6, 3, 2)),
+            ("6 of a row before 6 of a weight", [1.0, 0.0, NAN, 1.0], [NAN, 1.0], Refused(6, 2, 1)),
+            ("7 of a weight before 8 of a row", [1.0, -tiny, 0.0, 1.0], [1.0, 0.0], Refused(7, 3, 2)),
+            ("7 of a weight before 8 of one before", good, [tiny, -1.0], Refused(7, 3, 2)),
+            ("8 of a row before 8 of a weight", [1.0, -1.0, 0.0, tiny], [tiny, 1.0], Refused(8, 2, 2)),
+            ("8 of a weight before 10", [1.0, -LARGEST, 0.0, 2.0 ** 1022], [1.0, tiny], Refused(8, 3, 2))]:
+        check.gives(what, WEIGHTS, math.isqrt(len(numbers)), [*numbers, *weights], expected)
+
+
+def faults(reading: int, n: int, sheet: Sequence[float]) -> list[tuple[int, int, int]]:
+    """Every place that one of questions 6 to 8 refuses, by its bits: question, row and column."""
+    found = []
+    for place, x in enumerate(sheet):
+        row, column, word = place // n + 1, place % n + 1, bits_of(x)
+        move, size = row <= n and row != column, word % 2 ** 63
+        wrong_sign = word >> 63 != move if size else not move and reading != LEAVING_RATES
+        found += [(question, row, column) for question, bad in (
+            (6, size >= 0x7ff << 52), (7, wrong_sign), (8, 0 < size < 1 << 52)) if bad]
+    return found
+
+
+def test_random_places(check: Checks, rng: random.Random) -> None:
+    """Spoilt sheets of each reading: the least of all faults, by question, then row, then column, is told."""
+    told: Counter[tuple[int, int, bool]] = Counter()
+    for at in range(3000):
+        reading, n = rng.choice(READINGS), rng.randint(1, 4) if at % 100 else LIMIT
+        sheet = random_sheet(rng, reading, n, random_style(rng, 3))
+        for _ in range(rng.randint(1, 4)):
+            sheet = spoilt(rng, sheet)
+        expected = min(faults(reading, n, sheet), default=None)
+        check.equal(f"6 to 8 of {sheet}", ask_places(reading, n, sheet), Refused(*expected) if expected else None)
+        if expected:
+            told[reading, expected[0], expected[1] > n] += 1
+    for reading, of_weight in [*((reading, False) for reading in READINGS), (WEIGHTS, True)]:
+        for question in (6, 7, 8):
+            case = reading, question, of_weight
+            check.true(f"{case}: {told[case]}", told[case] > 20)
 
 
 def test_zeros(check: Checks) -> None:
@@ -1309,6 +1448,7 @@ def test_zeros(check: Checks) -> None:
         check.gives("diagonal sheet", 1, 2, [2.0, zero, zero, 4.0], [0.5, 0.0, 0.0, 0.25])
         check.gives("diagonal sheet, margins", 2, 2, [2.0, zero, zero, 4.0], [0.5, 0.0, 0.0, 0.25])
         check.gives("I", 2, 2, [2.0, zero, -1.0, 4.0], [0.5, 0.0, 0.125, 0.25])
+        check.gives("diagonal sheet, weights", 3, 2, [2.0, zero, zero, 4.0, 1.0, 2.0], [0.5, 0.0, 0.0, 0.5])
 
 
 def test_range(check: Checks) -> None:
@@ -1334,6 +1474,14 @@ def test_range(check: Checks) -> None:
     tiny = 2.0 ** -1022
     check.gives("d_2 / a_2 beside a zero t_12", 2, 3, [1.0, 0.0, -1.0, 0.0, tiny, -1.0, 0.0, 0.0, 1.0], Refused(10))
     check.gives("d_1 / a_1 is never taken", 2, 2, [tiny, -1.0, 0.0, 1.0], [1.0, 1.0, 0.0, 1.0])
+    check.gives("a weighted size just above 2^-1022", 3, 2, [1.0, -2 * tiny, 0.0, 2.0 ** -10, 1.0, 1.0],
+                [1.0, 2.0 ** -1011, 0.0, 2.0 ** 10])
+    check.gives("a weighted size rounds to 2^-1022", 3, 2,
+                [1.0, -(1 + 2.0 ** -52) * 2.0 ** -500, 0.0, 1.0, 1.0, (1 - 2.0 ** -53) * 2.0 ** -522], Refused(10))
+    check.gives("a zero size beside a small weight", 3, 2, [1.0, 0.0, 0.0, 2.0 ** 10 * tiny, 1.0, tiny],
+                [1.0, 0.0, 0.0, 2.0 ** -10])
+    check.gives("a weighted sum over its weight is 2^-1022", 3, 1, [2.0 ** -511, 2.0 ** 511], Refused(10))
+    check.gives("it is just above", 3, 1, [2.0 ** -511, 2.0 ** 510], [2.0 ** 1021])
     test_range_of_each_step(check)
     check.equal("range facts kept apart", range_facts([[0.0, 0.0], [0.0, 0.0]], [1.0, 2.0 ** 1022]),
                 RangeFacts(True, [True, False]))
@@ -1363,7 +1511,16 @@ def test_range_of_each_step(check: Checks) -> None:
             ("k_i·y_ij", 2, 3, [huge, -tiny, -1.0, 0.0, 1.0, -1.0, 0.0, 0.0, 1.0]),
             ("1 / a_k", 2, 1, [2.0 ** 1022]),
             ("t_jk / a_k", 2, 2, [huge, 0.0, -tiny, 1.0]),
-            ("x_ij·(t_jk / a_k)", 2, 2, [1.0, 0.0, -tiny, huge])]:
+            ("x_ij·(t_jk / a_k)", 2, 2, [1.0, 0.0, -tiny, huge]),
+            ("t_kj·z_j too small", 3, 2, [1.0, -tiny, 0.0, 1.0, 1.0, tiny]),
+            ("t_kj·z_j too large", 3, 2, [1.0, -huge, 0.0, 1.0, 1.0, huge]),
+            ("sum of the t_kj·z_j", 3, 3, [1.0, -most, -most, 0.0, 1.0, 0.0, 0.0, 0.0, 1.0, huge, 1.0, 1.0]),
+            ("that and s_k", 3, 2, [most, -most, 0.0, 1.0, huge, 1.0]),
+            ("sum / z_k too small", 3, 1, [tiny, huge]), ("sum / z_k too large", 3, 1, [huge, tiny]),
+            ("the last pivot's sum / z_n", 3, 2, [1.0, 0.0, 0.0, huge, 1.0, tiny]),
+            ("downward m, with weights", 3, 2, [huge, 0.0, -tiny, 1.0, 1.0, 1.0]),
+            ("m·s_k, with weights", 3, 2, [tiny, -1.0, -tiny, 1.0, 1.0, 1.0]),
+            ("b_ij / p_i, with weights", 3, 2, [1.0, 0.0, 0.0, 2.0 ** 1022, 1.0, 1.0])]:
         check.gives(f"{what} out of range", reading, n, sheet, Refused(10))
     chain = [[0.0, 0.0, 0.0], [tiny, 0.0, 0.0], [0.0, tiny, 0.0]]
     check.equal("column 1 alone", range_facts(chain, [1.0] * 3), RangeFacts(True, [False, True, True]))
@@ -1371,8 +1528,9 @@ def test_range_of_each_step(check: Checks) -> None:
     check.equal("column 3 alone", range_facts(chain, [1.0] * 3), RangeFacts(True, [True, True, False]))
 
 
-def test_margins(check: Checks) -> None:
-    """The places where document 01 differs from the algorithms of 000, and the order of a pivot's sum."""
+def test_order_of_steps(check: Checks) -> None:
+    """The places where document 01 differs from the algorithms of 000, and the order of a pivot's steps, with weights
+    and without."""
     check.gives("leaving rates over every j > i", 2, 2, [3.0, -1.0, 0.0, 1.0], [0.25, 0.25, 0.0, 1.0])
     for what, reading, n, sheet, i, j, bits in [
             ("a single kept stage", 2, 2, [1.0, -5.0, 0.0, 1.0], 1, 1, 0x3fc5555555555556),
@@ -1400,7 +1558,19 @@ def test_margins(check: Checks) -> None:
             # (1 + 2^-52), over p_1 = 1 + 2^-52; the other order gives 1 + 2^-52
             ("upward from the last stage", 1, 3, [1.0, -(2.0 ** -53 + 2.0 ** -60), -2.0 ** -53,
                                                   -(1 + 2.0 ** -52), 0.0, 0.0, -(1 + 2.0 ** -52), 0.0, 0.0],
-             1, 1, 0x3ff0000000000000)]:
+             1, 1, 0x3ff0000000000000),
+            # by hand: the products are 2^53, 1 and 1, and p_1 = ((0 + 1) + 1) + 2^53, over 2; x_11 = 1 / (2^52 + 1)
+            ("weighted sizes fall", 3, 4, [2.0 ** -60, -2.0 ** 53, -2.0, -4.0, 0.0, 1.0, 0.0, 0.0, 0.0, 0.0, 1.0, 0.0,
+                                           0.0, 0.0, 0.0, 1.0, 2.0, 1.0, 0.5, 0.25], 1, 1, 0x3caffffffffffffe),
+            # by hand: p_1 = ((0 + 1) + 1) + 2^53, over 1/2; x_11 = 1 / (2^54 + 4)
+            ("s_k comes after them", 3, 3, [2.0 ** 53, -2.0, -4.0, 0.0, 1.0, 0.0, 0.0, 0.0, 1.0, 0.5, 0.5, 0.25],
+             1, 1, 0x3c8ffffffffffffe),
+            # by hand: 3 / 10 is the number 0.3, where 1 / 10 + 2 / 10 is the next one; x_11 = 1 / 0.3
+            ("the sum is divided", 3, 2, [1.0, -2.0, 0.0, 1.0, 10.0, 1.0], 1, 1, bits_of(float(1 / Fraction(0.3)))),
+            # by hand: the square of 1 + 2^-30 rounds to 1 + 2^-29, and 2^-53 more is a tie that goes back there,
+            # while the exact square is above the tie; x_11 = 1 / (1 + 2^-29) rounds to 1 - 2^-29
+            ("a weighted size is rounded by itself", 3, 2, [2.0 ** -53, -(1 + 2.0 ** -30), 0.0, 1.0,
+                                                            1.0, 1 + 2.0 ** -30], 1, 1, 0x3fefffffff000000)]:
         got = entry(reading, n, check.unit(), sheet, i, j)
         check.true(f"{what}: {got}", isinstance(got, Seconds) and bits_of(got.value) == bits)
 
@@ -1444,21 +1614,25 @@ class Ranged(float):
 
 def literal_steps(n: int, sheet: Sequence[float], columns: Sequence[int], number: type[float]) -> list[float]:
     """Document 01's steps for leaving rates word by word, under the stages' own numbers from 1, with b as a
-    table with these columns alone and idle stages passed over.  With `Ranged` for number each step has its range
-    test, with `float` none has."""
-    idle = {i for i in range(1, n + 1) if not any(sheet[(i - 1) * n:i * n]) and not any(sheet[i - 1::n])}
+    table with these columns alone and idle stages passed over; the pivots are those of document 02, U8, or, where
+    weights follow the sheet's n × n numbers, of U10.  With `Ranged` for number each step has its range test, with
+    `float` none has."""
+    idle = {i for i in range(1, n + 1) if not any(sheet[(i - 1) * n:i * n]) and not any(sheet[i - 1:n * n:n])}
     places = [i for i in range(1, n + 1) if i not in idle]
     t = {(i, j): number(0.0 - sheet[(i - 1) * n + j - 1]) for i in places for j in places if i != j}
     s = {i: number(sheet[(i - 1) * n + i - 1] + 0.0) for i in places}
+    z = {j: number(weight) for j, weight in enumerate(sheet[n * n:], 1)}
     b = {(i, j): number(i == j) for i in places for j in columns}
     p: dict[int, float] = {}
     for k in places:
         later = [i for i in places if i > k]
-        p[k] = 0.0
+        p[k] = number(0.0)
         for j in range(n, k, -1):
             if j in later:
-                p[k] = p[k] + t[k, j]
+                p[k] = p[k] + (t[k, j] * z[j] if z else t[k, j])
         p[k] = p[k] + s[k]
+        if z:
+            p[k] = p[k] / z[k]
         for i in later:
             m = t[i, k] / p[k]
             s[i] = s[i] + m * s[k]
@@ -1478,14 +1652,22 @@ def literal_steps(n: int, sheet: Sequence[float], columns: Sequence[int], number
 
 
 def test_literal_steps(check: Checks, rng: random.Random) -> None:
-    """The steps column by column have the bits of the text's whole table."""
-    for _ in range(300):
-        n = rng.randint(1, 9)
-        sheet = random_sheet(rng, LEAVING_RATES, n, random_style(rng, 60))
-        got = table(LEAVING_RATES, n, check.unit(), sheet, n * n)
-        if isinstance(got, Table):
-            check.equal("column by column", words_of(got.entries),
-                        words_of(literal_steps(n, sheet, range(1, n + 1), float)))
+    """The steps column by column have the bits of the text's whole table, without range tests, and its decision with
+    them; so have sheets with weights at the edge of the range."""
+    seen: Counter[tuple[int, bool]] = Counter()
+    for at in range(900):
+        reading, n = rng.choice([LEAVING_RATES, WEIGHTS]), rng.randint(1, 9)
+        sheet = random_sheet(rng, reading, n, random_style(rng, 60 if at % 3 else 300))
+        pair = edge_pair(rng, reading, n, sheet) if at % 5 == 0 and n < 6 else None
+        for numbers in [sheet, *(pair or ())]:
+            got = table(reading, n, check.unit(), numbers, n * n)
+            seen[reading, isinstance(got, Table)] += 1
+            check.equal(f"step by step, {numbers}", words_of(got.entries if isinstance(got, Table) else got),
+                        words_of(literal_answer(n, numbers, range(1, n + 1))))
+            if isinstance(got, Table):
+                check.equal("column by column", words_of(got.entries),
+                            words_of(literal_steps(n, numbers, range(1, n + 1), float)))
+    check.true(f"tables of each kind: {seen}", len(seen) == 4 and min(seen.values()) > 30)
 
 
 def literal_answer(n: int, sheet: Sequence[float], columns: Sequence[int]) -> Union[Refused, list[float]]:
@@ -1505,6 +1687,7 @@ def test_column_questions(check: Checks) -> None:
     lost_pivot = [1.0, 0.0, 0.0, 0.0, LARGEST, -LARGEST, 0.0, 0.0, 1.0]
     for stage in (1, 2, 3):
         check.column("a pivot that overflows", 3, lost_pivot, stage, Refused(10))
+        check.equal("the same step by step", literal_answer(3, lost_pivot, [stage]), Refused(10))
     # by hand: 2^970 + (2^970 + 2^919) is exact, and with s_1 rounds to the largest number; from s_1 on it is that
     # number before 2^970 is added, a tie that overflows.  2^969 + 2^969 makes such a tie, each alone is lost.
     check.column("a pivot that s_1 first would lose", 3, [LARGEST - 2.0 ** 971, -(2.0 ** 970 + 2.0 ** 919), -2.0 ** 970,
@@ -1517,7 +1700,8 @@ def test_column_questions(check: Checks) -> None:
         check.equal("a larger area", column(1, 2, check.unit(), P_SHEET, stage, 2000), Column(expected, 32))
     for reading in (0, 2, 3, 2 ** 64 - 1):
         check.equal("1 before 2, column", column(reading, 0, 513, [], 0, 0), Refused(1))
-        check.equal("1 of a good sheet", column(reading, 2, 0, P_SHEET, 1, 2), Refused(1))
+        for sheet in (P_SHEET, W_SHEET):
+            check.equal("1 of a good sheet", column(reading, 2, 0, sheet, 1, 2), Refused(1))
     for n in (0, 33, 2 ** 32, 2 ** 63, 2 ** 64 - 1):
         check.equal("2 before 12, column", column(1, n, -513, [NAN], 0, 0), Refused(2))
     for length in (0, 1, 3, 5):
@@ -1726,13 +1910,16 @@ def test_units(check: Checks) -> None:
         for what, sheet, reading, room in [("12 before 3", [NAN] * 3, 1, 0), ("12 before 4", [NAN] * 4, 1, 0),
                                            ("12 before 6", [NAN] * 4, 1, 60), ("12 alone", P_SHEET, 1, 60),
                                            ("12 before 3, margins", [NAN] * 5, 2, 0),
-                                           ("12 alone, margins", [3.0, -1.0, -4.0, 1.0], 2, 60)]:
+                                           ("12 alone, margins", [3.0, -1.0, -4.0, 1.0], 2, 60),
+                                           ("12 before 3, weights", [NAN] * 4, 3, 0),
+                                           ("12 alone, weights", W_SHEET, 3, 100)]:
             check.equal(f"{what}, e = {e}", table(reading, 2, e, sheet, room), Refused(12))
             check.equal(f"{what}, e = {e}, entry", entry(reading, 2, e, sheet, 0, 3), Refused(12))
             check.equal(f"{what}, e = {e}, a good entry", entry(reading, 2, e, sheet, 1, 1), Refused(12))
             check.equal(f"{what}, e = {e}, column", column(1, 2, e, sheet, 0, room), Refused(12))
             check.equal(f"{what}, e = {e}, a good column", column(1, 2, e, sheet, 1, room), Refused(12))
-            check.equal(f"1 before 12, e = {e}, column", column(2, 2, e, sheet, 1, room), Refused(1))
+            for other in (MARGINS, WEIGHTS):
+                check.equal(f"1 before 12, e = {e}, column", column(other, 2, e, sheet, 1, room), Refused(1))
             check.equal(f"{what}, e = {e}, saving", save(reading, 2, e, [0] * len(sheet), room), Refused(12))
             check.equal(f"{what}, e = {e}, saving numbers", save_numbers(reading, 2, e, sheet, room), Refused(12))
             for k in (-e, 0, 600, 513, -513):
@@ -1745,6 +1932,7 @@ def test_units(check: Checks) -> None:
                     Column([1.0, 2.0], 32) if within else Refused(12))
         check.equal(f"saving, e = {e}", isinstance(save_numbers(1, 2, e, P_SHEET, 60), Saved), within)
         check.equal(f"moving by 0, e = {e}", move(1, 2, e, P_SHEET, 0, 4), Moved(P_SHEET, e) if within else Refused(12))
+        check.equal(f"weights, e = {e}", table(3, 2, e, W_SHEET, 4), Table(2, 48, W_TABLE) if within else Refused(12))
 
 
 def test_price_documents(check: Checks) -> None:
@@ -1757,6 +1945,7 @@ def test_price_documents(check: Checks) -> None:
             ("P, one price", 1, 2, P_SHEET, [0.0, 1.0], [1.0, 2.0]), ("no price", 1, 2, P_SHEET, [0.0, 0.0], [0.0, 0.0]),
             ("H", 2, 2, [3.0, -1.0, -4.0, 1.0], [1.0, 3.0], [1.25, 4.0]),
             ("I", 2, 2, [2.0, 0.0, -1.0, 4.0], [8.0, 16.0], [4.0, 5.0]),
+            ("W", 3, 2, W_SHEET, [1.0, 2.0], [0.8125, 2.25]), ("a weight", 3, 1, [2.0, 0.5], [8.0], [2.0]),
             ("j rises", 1, 3, chain, [two_53, 1.0, 1.0], [two_53, 2.0, 1.0]),
             ("j rises, the other way round", 1, 3, chain, [1.0, 1.0, two_53], [two_53 + 2.0, two_53, two_53]),
             ("a product is rounded by itself", 1, 2, [0.0, -1.0, 0.0, 3.0], [1.0, 3.0], [2.0, 1.0]),
@@ -1773,6 +1962,9 @@ def test_price_documents(check: Checks) -> None:
             ("a sum that overflows", 1, 2, P_SHEET, [most, most], Refused(10)),
             ("the table out of range, prices zero", 1, 2, [1.0, 0.0, 0.0, beyond], [1.0, 0.0], Refused(10)),
             ("19 before 10", 1, 2, [1.0, 0.0, 0.0, beyond], [0.0, -1.0], Refused(19, 2)),
+            ("a pivot out of range, prices zero", 3, 1, [2.0 ** -600, 2.0 ** 600], [0.0], Refused(10)),
+            ("19 before 10, weights", 3, 1, [2.0 ** -600, 2.0 ** 600], [-1.0], Refused(19, 1)),
+            ("8 of a weight before 19", 3, 1, [1.0, below], [NAN], Refused(8, 2, 1)),
             ("9 before 19", 1, 2, [1.0, -1.0, 0.0, 0.0], [NAN, NAN], Refused(9, 2)),
             ("8 before 19", 1, 2, [1.0, -below, 0.0, 0.0], [NAN, NAN], Refused(8, 1, 2)),
             ("7 before 19", 2, 1, [0.0], [-1.0], Refused(7, 1, 1)), ("6 before 19", 1, 1, [INF], [NAN], Refused(6, 1, 1)),
@@ -1787,22 +1979,24 @@ def test_price_documents(check: Checks) -> None:
 
 def test_price_order(check: Checks) -> None:
     """Prices: each question before the next, where both are answered no."""
-    for reading in (0, 3, 2 ** 64 - 1):
+    for reading in (0, 4, 2 ** 64 - 1):
         check.equal("1 before 2, prices", request_prices(reading, 0, 513, [], [], 0), Refused(1))
         check.equal("1 of a good sheet, prices", request_prices(reading, 2, 0, P_SHEET, [1.0, 1.0], 2), Refused(1))
-    for reading in (1, 2):
+    for reading in READINGS:
+        one, nans = in_reading(reading, [1.0]), in_reading(reading, [NAN] * 4)
         for n in (0, 33, 2 ** 32, 2 ** 63, 2 ** 64 - 1):
             check.equal("2 before 12, prices", request_prices(reading, n, -513, [NAN], [NAN], 0), Refused(2))
         for e in POWERS_OUT_OF_RANGE:
             check.equal(f"12 before 3, prices, e = {e}", request_prices(reading, 2, e, [NAN], [NAN], 0), Refused(12))
-            check.equal(f"12 alone, e = {e}", request_prices(reading, 1, e, [1.0], [1.0], 1), Refused(12))
-        for length in (0, 1, 3, 5):
+            check.equal(f"12 alone, e = {e}", request_prices(reading, 1, e, one, [1.0], 1), Refused(12))
+        for length in {0, 1, 3, 4, 5, 6, 7} - {len(nans)}:
             check.equal("3 before 4, prices", request_prices(reading, 2, 512, [NAN] * length, [NAN], 0), Refused(3))
         for room in (0, 1):
-            check.equal("4 before 18", request_prices(reading, 2, -512, [NAN] * 4, [NAN], room), Refused(4))
+            check.equal("4 before 18", request_prices(reading, 2, -512, nans, [NAN], room), Refused(4))
         for length in (0, 1, 3, 4):
-            check.equal("18 before 6", request_prices(reading, 2, 0, [NAN] * 4, [NAN] * length, 2), Refused(18))
-            check.equal("18 alone", request_prices(reading, 2, 0, [1.0, 0.0, 0.0, 1.0], [1.0] * length, 2), Refused(18))
+            good = in_reading(reading, [1.0, 0.0, 0.0, 1.0])
+            check.equal("18 before 6", request_prices(reading, 2, 0, nans, [NAN] * length, 2), Refused(18))
+            check.equal("18 alone", request_prices(reading, 2, 0, good, [1.0] * length, 2), Refused(18))
 
 
 def price_by_fractions(row: Sequence[float], prices: Sequence[float]) -> Optional[float]:
@@ -1842,20 +2036,23 @@ def check_prices(check: Checks, worst: Worst, n: int, sheet: Sequence[float], pr
 
 
 def test_random_prices(check: Checks, rng: random.Random, long: bool) -> None:
-    """Random sheets of both readings, often with idle stages, at random prices and at prices at the edge of the range."""
-    for reading, name in ((LEAVING_RATES, "prices of leaving rates"), (MARGINS, "prices of margins")):
-        worst = Worst(reading, name)
+    """Random sheets of each reading, often with idle stages, at random prices and at prices at the edge of the
+    range."""
+    for reading, name in NAMES_OF_READINGS.items():
+        worst = Worst(reading, f"prices of {name}")
         for at in range(2000 if long else 400):
             n = rng.randint(1, 6) if at % 100 else rng.randint(7, LIMIT if long else 12)
             sheet = random_sheet(rng, reading, n, random_style(rng, 300 if n < 7 else 30))
-            total = n + rng.choice([0, 0, 1, 3]) if reading == LEAVING_RATES and n < 7 else n
-            sheet, prices = among_idle(rng, n, sheet, total)[1], random_prices(rng, total)
-            check_prices(check, worst, total, sheet, prices)
-            pair = price_edge_pair(rng, reading, total, sheet, prices) if at % 5 == 0 and total < 7 else None
+            if reading == LEAVING_RATES and n < 7:
+                own, n = n, n + rng.choice([0, 0, 1, 3])
+                sheet = among_idle(rng, own, sheet, n)[1]
+            prices = random_prices(rng, n)
+            check_prices(check, worst, n, sheet, prices)
+            pair = price_edge_pair(rng, reading, n, sheet, prices) if at % 5 == 0 and n < 7 else None
             if pair is not None:
                 worst.edges += 1
-                check.true("accepted at the edge", check_prices(check, worst, total, sheet, pair[0]))
-                check.prices("refused at the edge", reading, total, sheet, pair[1], Refused(10))
+                check.true("accepted at the edge", check_prices(check, worst, n, sheet, pair[0]))
+                check.prices("refused at the edge", reading, n, sheet, pair[1], Refused(10))
         check.true("prices of each kind", min(worst.accepted, worst.out_of_range, worst.edges) > 20)
         print(worst.line(), flush=True)
 
@@ -1869,15 +2066,15 @@ def test_moving_units(check: Checks) -> None:
             (257, 256, None), (-300, -213, None)]:
         check.equal(f"e = {e} by {k}", move(1, 1, e, [1.0], k, 1),
                     Refused(17) if expected is None else Moved([2.0 ** k], expected))
-    for reading in (1, 2):
+    for reading in READINGS:
         for e in range(-512, 513):
             for end in (-512, 512):
                 k = end - e
                 for past, within in ((0, True), (1 if end > 0 else -1, False)):
                     if abs(k + past) <= 512:
-                        got = move(reading, 1, e, [1.0], k + past, 1)
+                        got = move(reading, 1, e, in_reading(reading, [1.0]), k + past, 2)
                         check.equal(f"e = {e} to {end + past}", got,
-                                    Moved([2.0 ** k], end) if within else Refused(17))
+                                    Moved(in_reading(reading, [2.0 ** k]), end) if within else Refused(17))
     tiny = 2.0 ** -1074
     for what, sheet, e, k, expected in [
             ("8 before 17", [1.0, -tiny, 0.0, 1.0], 512, 1, Refused(8, 1, 2)),
@@ -1892,8 +2089,8 @@ def test_moving_units(check: Checks) -> None:
             ("16 at the other end", [1.0, -SMALLEST_NORMAL, 0.0, 1.0], -511, -1, Refused(16)),
             ("15 for the least k", [1.0, 0.0, 0.0, 1.0], -512, LEAST_INT64, Refused(15)),
             ("15 for the greatest k", [1.0, 0.0, 0.0, 1.0], 512, GREATEST_INT64, Refused(15))]:
-        for reading in (1, 2):
-            check.equal(what, move(reading, 2, e, sheet, k, 4), expected)
+        for reading in READINGS:
+            check.equal(what, move(reading, 2, e, in_reading(reading, sheet), k, 6), expected)
     check.equal("12 before 8", move(1, 2, 513, [1.0, -tiny, 0.0, 1.0], -1, 4), Refused(12))
     check.equal("12 though e + k is in range", move(1, 2, 513, P_SHEET, -1, 4), Refused(12))
     check.equal("4 before 17", move(1, 2, 512, P_SHEET, 1, 3), Refused(4))
@@ -1919,25 +2116,33 @@ def test_moving_documents(check: Checks) -> None:
             ("a way in and none out", 1, 2, [1.0, -1.0, 0.0, -0.0], 9, [512.0, -512.0, 0.0, -0.0]),
             ("E becomes F", 1, 1, [2.0 ** 1021], 1, [2.0 ** 1022]),
             ("a table out of range", 1, 2, [1.0, 0.0, 0.0, 2.0 ** 1022], 1, [2.0, 0.0, 0.0, 2.0 ** 1023]),
-            ("margins out of range", 2, 1, [2.0 ** 1022], -500, [2.0 ** 522])]:
+            ("margins out of range", 2, 1, [2.0 ** 1022], -500, [2.0 ** 522]),
+            ("W in ticks", 3, 2, W_SHEET, -10, [2.0 ** -9, -2.0 ** -10, -2.0 ** -10, 1.5 * 2.0 ** -10, 1.0, 2.0]),
+            ("W as it is", 3, 2, W_SHEET, 0, W_SHEET),
+            ("the largest weight", 3, 1, [1.0, LARGEST], 512, [2.0 ** 512, LARGEST]),
+            ("the smallest weight", 3, 1, [1.0, SMALLEST_NORMAL], -512, [2.0 ** -512, SMALLEST_NORMAL]),
+            ("zeros beside weights", 3, 2, [1.0, -0.0, 0.0, 3.0, 0.1, 0.3], 1, [2.0, -0.0, 0.0, 6.0, 0.1, 0.3]),
+            ("16 beside good weights", 3, 1, [2.0 ** -511, 1.0], -512, Refused(16)),
+            ("a pivot out of range", 3, 1, [2.0 ** -600, 2.0 ** 600], 1, [2.0 ** -599, 2.0 ** 600])]:
         check.moves(what, reading, n, sheet, k, expected)
 
 
 def test_moving_order(check: Checks) -> None:
     """Moving: each question before the next, where both are answered no."""
     tiny, good = 2.0 ** -1074, [2.0, -1.0, -1.0, 2.0]
-    for reading in (0, 3, 2 ** 64 - 1):
+    for reading in (0, 4, 2 ** 64 - 1):
         check.equal("1 before 2, moving", move(reading, 0, 513, [], 600, 0), Refused(1))
         check.equal("1 of a good sheet, moving", move(reading, 2, 0, good, 1, 4), Refused(1))
-    for reading in (1, 2):
+    for reading in READINGS:
         for n in (0, 33, 2 ** 32, 2 ** 63, 2 ** 64 - 1):
             check.equal("2 before 12, moving", move(reading, n, 513, [NAN], 600, 0), Refused(2))
-        check.equal("33 stages, moving", move(reading, 33, 0, [1.0] * 1089, 1, 1089), Refused(2))
-        for length in (0, 1, 3, 5):
+        check.equal("33 stages, moving", move(reading, 33, 0, [1.0] * 1122, 1, 1122), Refused(2))
+        needed = 6 if reading == 3 else 4
+        for length in {0, 1, 3, 4, 5, 6, 7} - {needed}:
             check.equal("3 before 4, moving", move(reading, 2, 512, [NAN] * length, 600, 0), Refused(3))
-        for room in (0, 2, 3):
-            check.equal("4 before 6, moving", move(reading, 2, 512, [NAN] * 4, 600, room), Refused(4))
-            check.equal("4 of a good sheet", move(reading, 2, 0, good, 1, room), Refused(4))
+        for room in range(needed):
+            check.equal("4 before 6, moving", move(reading, 2, 512, [NAN] * needed, 600, room), Refused(4))
+            check.equal("4 of a good sheet", move(reading, 2, 0, in_reading(reading, good), 1, room), Refused(4))
         for what, sheet, k, expected in [
                 ("6 before 7", [5.0, 1.0, NAN, 1.0], 600, Refused(6, 2, 1)),
                 ("infinite is 6", [1.0, 0.0, -INF, 1.0], 600, Refused(6, 2, 1)),
@@ -1950,7 +2155,13 @@ def test_moving_order(check: Checks) -> None:
                 ("15 before 16, above", [1.0, 0.0, 0.0, LARGEST], 513, Refused(15)),
                 ("15 before 16, below", [1.0, -SMALLEST_NORMAL, 0.0, 1.0], -513, Refused(15)),
                 ("16 alone", [1.0, 0.0, -LARGEST, 1.0], 1, Refused(16))]:
-            check.moves(what, reading, 2, sheet, k, expected)
+            check.moves(what, reading, 2, in_reading(reading, sheet), k, expected)
+    for what, weight, k, expected in [
+            ("6 of a weight", NAN, 600, Refused(6, 2, 1)), ("7 of a weight", -0.0, 600, Refused(7, 2, 1)),
+            ("7 before 8 of a weight", -tiny, 1, Refused(7, 2, 1)),
+            ("8 of a weight before 15", tiny, 600, Refused(8, 2, 1)),
+            ("8 of a weight before 16", tiny, 512, Refused(8, 2, 1))]:
+        check.moves(what, 3, 1, [2.0 ** 600, weight], k, expected)
     check.moves("a margin that is zero", 2, 1, [0.0], 600, Refused(7, 1, 1))
     check.moves("a margin that is minus zero", 2, 2, [1.0, 0.0, 0.0, -0.0], 1, Refused(7, 2, 2))
 
@@ -1958,34 +2169,38 @@ def test_moving_order(check: Checks) -> None:
 def test_moving_ends(check: Checks) -> None:
     """Moving: both ends of the range of k, and for every k the last number at either end of the range of results
     that is moved and the first that is not, on the diagonal and beside it."""
-    for reading in (1, 2):
+    for reading in READINGS:
         for k in (-FURTHEST_POWER, FURTHEST_POWER):
-            check.moves("an end of the range of k", reading, 1, [1.0], k, [2.0 ** k])
+            check.moves("an end of the range of k", reading, 1, in_reading(reading, [1.0]), k,
+                        in_reading(reading, [2.0 ** k]))
         for k in POWERS_OUT_OF_RANGE:
-            check.moves("past it", reading, 1, [1.0], k, Refused(15))
+            check.moves("past it", reading, 1, in_reading(reading, [1.0]), k, Refused(15))
     for k in range(-512, 513):
         # k lowers or raises the exponent field, which is 1 for 2^-1022 and 2046 for the largest number
         low, high = bits_of(SMALLEST_NORMAL), bits_of(LARGEST)
         within = {low + (max(0, -k) << 52): max(low, low + (k << 52)),
                   high - (max(0, k) << 52): min(high, high + (k << 52))}
         past = {low + (-k << 52) - 1} if k < 0 else {high - (k << 52) + 1} if k > 0 else set()
-        for reading in (1, 2):
+        for reading in READINGS:
             for before, after in within.items():
-                check.moves("within", reading, 1, [number_of(before)], k, [number_of(after)])
+                check.moves("within", reading, 1, in_reading(reading, [number_of(before)]), k,
+                            in_reading(reading, [number_of(after)]))
             for before in past:
-                check.moves("past an end", reading, 1, [number_of(before)], k, Refused(16))
-                check.moves("past an end, off the diagonal", reading, 2, [1.0, 0.0, -number_of(before), 1.0], k,
-                            Refused(16))
+                check.moves("past an end", reading, 1, in_reading(reading, [number_of(before)]), k, Refused(16))
+                check.moves("past an end, off the diagonal", reading, 2,
+                            in_reading(reading, [1.0, 0.0, -number_of(before), 1.0]), k, Refused(16))
 
 
-def moved_bits(sheet: Sequence[float], k: int) -> Union[Refused, list[int]]:
+def moved_bits(n: int, sheet: Sequence[float], k: int) -> Union[Refused, list[int]]:
     """Question 16 and the results by their bits alone: the exponent field of each nonzero number, plus k, has to be
-    one of a finite number that is at least 2^-1022."""
+    one of a finite number that is at least 2^-1022.  What stands after the n × n numbers keeps its bits."""
     words = [bits_of(x) for x in sheet]
-    fields = [(word >> 52 & 0x7ff) + k for word in words if word & 2 ** 63 - 1]
-    if not all(1 <= field <= 0x7fe for field in fields):
+    moved = [place for place in range(n * n) if words[place] & 2 ** 63 - 1]
+    if not all(1 <= (words[place] >> 52 & 0x7ff) + k <= 0x7fe for place in moved):
         return Refused(16)
-    return [word + (k << 52) if word & 2 ** 63 - 1 else word for word in words]
+    for place in moved:
+        words[place] += k << 52
+    return words
 
 
 def check_moved_again(check: Checks, rng: random.Random, reading: int, n: int, sheet: Sequence[float], k: int,
@@ -1993,8 +2208,8 @@ def check_moved_again(check: Checks, rng: random.Random, reading: int, n: int, s
     """The numbers of a moved sheet, moved back, have the bits of the sheet.  Moved further they have those of the
     sheet moved once, by the sum; whether that was tried."""
     check.moves("and back", reading, n, numbers, -k, sheet)
-    further = random_power(rng, numbers)
-    again = move(reading, n, IN_SECONDS, numbers, further, n * n)
+    further = random_power(rng, n, numbers)
+    again = move(reading, n, IN_SECONDS, numbers, further, len(numbers))
     if isinstance(again, Refused) or ask_power(k + further):
         return False
     check.moves("two moves as one", reading, n, sheet, k + further, again.numbers)
@@ -2004,15 +2219,16 @@ def check_moved_again(check: Checks, rng: random.Random, reading: int, n: int, s
 def test_random_moves(check: Checks, rng: random.Random, long: bool) -> None:
     """Moving random sheets: the bits and decisions of `moved_bits`, and moves of what was moved."""
     moved = refused = further = 0
-    for at in range(8000 if long else 1500):
-        reading, n = rng.choice([1, 2]), rng.randint(1, 6) if at % 100 else LIMIT
+    for at in range(12000 if long else 2000):
+        reading, n = rng.choice(READINGS), rng.randint(1, 6) if at % 100 else LIMIT
         sheet = sheet_to_move(rng, reading, n)
-        k = random_power(rng, sheet)
-        got, expected = move(reading, n, IN_SECONDS, sheet, k, n * n), moved_bits(sheet, k)
+        k = random_power(rng, n, sheet)
+        got, expected = move(reading, n, IN_SECONDS, sheet, k, len(sheet)), moved_bits(n, sheet, k)
         check.equal(f"{sheet} by 2^{k}", [bits_of(x) for x in got.numbers] if isinstance(got, Moved) else got, expected)
         if isinstance(got, Moved):
             moved += 1
-            check.equal("each by ldexp", words_of(got.numbers), words_of([math.ldexp(x, k) for x in sheet]))
+            check.equal("each by ldexp", words_of(got.numbers),
+                        words_of([math.ldexp(x, k) for x in sheet[:n * n]] + sheet[n * n:]))
             further += check_moved_again(check, rng, reading, n, sheet, k, got.numbers)
         else:
             refused += 1
@@ -2027,12 +2243,15 @@ def divided(words: Sequence[int], k: int) -> list[int]:
     return [word and word - (k << 52) for word in words]
 
 
-def check_commutes(check: Checks, service: str, k: int, got: Union[Table, Column, Prices, Refused],
-                   moved: Union[Table, Column, Prices, Refused], seen: Counter[tuple[str, bool, bool]]) -> None:
+Commuting = Counter[tuple[str, int, bool, bool]]    # service, reading, and which of two calls were accepted
+
+
+def check_commutes(check: Checks, service: str, reading: int, k: int, got: Union[Table, Column, Prices, Refused],
+                   moved: Union[Table, Column, Prices, Refused], seen: Commuting) -> None:
     """Two calls of a service, on a sheet and on that sheet moved by 2^k.  If both are accepted, the second has the
     numbers of the first divided by 2^k, and the same allowance.  Which of the two were accepted is counted."""
     accepted = not isinstance(got, Refused), not isinstance(moved, Refused)
-    seen[(service, *accepted)] += 1
+    seen[(service, reading, *accepted)] += 1
     if all(accepted):
         check.equal(f"{service}, moved by 2^{k}", [bits_of(x) for x in moved.entries],
                     divided([bits_of(x) for x in got.entries], k))
@@ -2043,19 +2262,19 @@ def check_commutes(check: Checks, service: str, k: int, got: Union[Table, Column
 
 
 def check_services(check: Checks, rng: random.Random, reading: int, n: int, e: int, sheet: Sequence[float], k: int,
-                   moved: Moved, seen: Counter[tuple[str, bool, bool]]) -> None:
+                   moved: Moved, seen: Commuting) -> None:
     """Every service on a sheet and on that sheet moved by 2^k."""
-    check_commutes(check, "table", k, table(reading, n, e, sheet, n * n),
+    check_commutes(check, "table", reading, k, table(reading, n, e, sheet, n * n),
                    table(reading, n, moved.e, moved.numbers, n * n), seen)
     i, j = rng.randint(1, n), rng.randint(1, n)
     one, other = entry(reading, n, e, sheet, i, j), entry(reading, n, moved.e, moved.numbers, i, j)
     if isinstance(one, Seconds) and isinstance(other, Seconds):
         check.equal(f"entry of {sheet}", [bits_of(other.value)], divided([bits_of(one.value)], k))
     prices = random_prices(rng, n)
-    check_commutes(check, "prices", k, request_prices(reading, n, e, sheet, prices, n),
+    check_commutes(check, "prices", reading, k, request_prices(reading, n, e, sheet, prices, n),
                    request_prices(reading, n, moved.e, moved.numbers, prices, n), seen)
     if reading == LEAVING_RATES:
-        check_commutes(check, "column", k, column(1, n, e, sheet, j, n),
+        check_commutes(check, "column", reading, k, column(1, n, e, sheet, j, n),
                        column(1, n, moved.e, moved.numbers, j, n), seen)
 
 
@@ -2072,8 +2291,13 @@ def test_commuting_documents(check: Checks) -> None:
             ("E becomes F", 1, 1, [2.0 ** 1021], 1, Refused(10)),
             ("F becomes E", 1, 1, [2.0 ** 1022], -1, [2.0 ** -1021]),
             ("E and F of margins", 2, 1, [2.0 ** 1021], 1, Refused(10)),
+            ("W in ticks", 3, 2, W_SHEET, -10, [320.0, 256.0, 256.0, 1024.0]),
+            ("E and F with a weight", 3, 1, [2.0 ** 1000, 2.0 ** -21], 1, Refused(10)),
+            ("F and E with a weight", 3, 1, [2.0 ** 1001, 2.0 ** -21], -1, [2.0 ** -1021]),
+            ("a weighted size that leaves the range", 3, 2, [1.0, -2.0 ** -900, 0.0, 1.0, 1.0, 2.0 ** -121], -1,
+             Refused(10)),
             ("C stays trapped", 1, 2, [0.0, -1.0, -1.0, 0.0], 5, Refused(9, 1))]:
-        moved = move(reading, n, IN_SECONDS, sheet, k, n * n)
+        moved = move(reading, n, IN_SECONDS, sheet, k, len(sheet))
         got = table(reading, n, moved.e, moved.numbers, n * n)
         check.equal(what, words_of(got if isinstance(got, Refused) else got.entries), words_of(expected))
 
@@ -2088,11 +2312,12 @@ def test_two_moves(check: Checks) -> None:
             ("a + b far past it", -512, [2.0 ** -1000], 512, 512, Refused(15)),
             ("from one end of e to the other", 512, [2.0 ** 600], -512, -512, Refused(15)),
             ("no move at all", 7, [3.0], 0, 0, Moved([3.0], 7))]:
-        for reading in (1, 2):
-            first = move(reading, 1, e, sheet, a, 1)
-            second = move(reading, 1, first.e, first.numbers, b, 1)
-            single = move(reading, 1, e, sheet, a + b, 1)
-            check.equal(what, single, expected)
+        for reading in READINGS:
+            first = move(reading, 1, e, in_reading(reading, sheet), a, 2)
+            second = move(reading, 1, first.e, first.numbers, b, 2)
+            single = move(reading, 1, e, in_reading(reading, sheet), a + b, 2)
+            check.equal(what, single, expected if isinstance(expected, Refused)
+                        else Moved(in_reading(reading, expected.numbers), expected.e))
             check.true(what, isinstance(second, Moved) and (single == second or single == Refused(15)))
     check.equal("a first move that is refused", move(1, 1, 0, [2.0 ** 1000], 100, 1), Refused(16))
     check.equal("where the single one is not", move(1, 1, 0, [2.0 ** 1000], 100 - 200, 1), Moved([2.0 ** 900], -100))
@@ -2103,16 +2328,18 @@ def test_two_moves(check: Checks) -> None:
 
 def test_random_commuting(check: Checks, rng: random.Random, long: bool) -> None:
     """Random sheets, moved and moved back: every service on both."""
-    seen: Counter[tuple[str, bool, bool]] = Counter()
-    for at in range(20000 if long else 3000):
-        reading, n = rng.choice([1, 2]), rng.randint(1, 5) if at % 300 else LIMIT
+    seen: Commuting = Counter()
+    for at in range(20000 if long else 4000):
+        reading, n = rng.choice(READINGS), rng.randint(1, 5) if at % 300 else LIMIT
         sheet, k = sheet_to_commute(rng, reading, n)
         e = rng.randint(max(-FURTHEST_POWER, -FURTHEST_POWER - k), min(FURTHEST_POWER, FURTHEST_POWER - k))
-        moved = move(reading, n, e, sheet, k, n * n)
+        moved = move(reading, n, e, sheet, k, len(sheet))
         if isinstance(moved, Moved):
             check_services(check, rng, reading, n, e, sheet, k, moved, seen)
             check_services(check, rng, reading, n, moved.e, moved.numbers, -k, Moved(sheet, e), seen)
-    for case in itertools.product(("table", "column", "prices"), (False, True), (False, True)):
+    services = [*((service, reading) for service in ("table", "prices") for reading in READINGS), ("column", 1)]
+    for service, accepted, moved_accepted in itertools.product(services, (False, True), (False, True)):
+        case = *service, accepted, moved_accepted
         check.true(f"{case}: {seen[case]}", seen[case] > 20)
 
 
@@ -2124,18 +2351,20 @@ def changed(data: bytes, at: int, form: str, value: int) -> bytes:
 
 def test_file(check: Checks, rng: random.Random) -> None:
     """The file format: round trips, every cut, every field changed, the order of 11 to 14 and 4."""
-    for reading in (1, 2):
+    for reading in READINGS:
         for n in (1, 2, 3, 7, 31, 32):
-            words = [rng.getrandbits(64) for _ in range(n * n)]
+            needed, after_rows = (n * n + n, 8 * n + 6) if reading == 3 else (n * n, 0)
+            words = [rng.getrandbits(64) for _ in range(needed)]
             words[-1] = rng.choice([0x7ff0000000000001, 0xfff8000000000000, 0x7ff8dead00000000, 1 << 63])
             unit = check.unit()
             for data, head_bytes, e in ((make_file_words(reading, n, unit, words), 12, unit),
                                         (make_short_file_words(reading, n, words), 10, 0)):
-                check.equal("length of a file", len(data), head_bytes + n * (8 * n + 8))
-                check.equal("round trip", load(data, n * n), Loaded(reading, n, e, words))
-                check.equal("an area one short", load(data, n * n - 1), Refused(4))
+                check.equal("length of a file", len(data), head_bytes + n * (8 * n + 8) + after_rows)
+                check.equal("round trip", load(data, needed), Loaded(reading, n, e, words))
+                check.equal("an area one short", load(data, needed - 1), Refused(4))
                 check.equal("one more byte, small area", load(data + b"\0", 0), Refused(14))
-    check.equal("longest file", (LONGEST_FILE, len(make_file(1, 32, 0, [1.0] * 1024))), (8460, 8460))
+    check.equal("longest file", (LONGEST_FILE, len(make_file(3, 32, 0, [1.0] * 1056))), (8722, 8722))
+    check.equal("longest file without weights", len(make_file(1, 32, 0, [1.0] * 1024)), 8460)
     check.equal("bytes of A's file in ticks", make_file(1, 1, -10, [2.0]).hex(),
                 "060000000100" "01000100f6ff" "0a0000000200" "0100" "0000000000000040")
     check.equal("bytes of A's file by document 01", make_short_file(1, 1, [2.0]).hex(),
@@ -2147,7 +2376,46 @@ def test_file(check: Checks, rng: random.Random) -> None:
     check.true("numbers of P's file", isinstance(loaded, Loaded) and loaded.numbers == P_SHEET)
     test_damaged_file(check, make_file(1, 2, 7, P_SHEET), 12, 7)
     test_damaged_file(check, make_short_file(1, 2, P_SHEET), 10, 0)
+    test_weights_of_files(check, make_file(3, 2, 7, W_SHEET), 12, 7)
+    test_weights_of_files(check, make_short_file(3, 2, W_SHEET), 10, 0)
     check.equal("10,006 bytes", load(struct.pack("<IH", 9000, 2) + bytes(10000), 1024), Refused(12))
+
+
+def test_weights_of_files(check: Checks, data: bytes, rows: int, e: int) -> None:
+    """W's file, its two rows of 24 bytes from this byte on and then the 22 bytes of its weights, which are due as
+    row 3: cut anywhere, with each field of the weights changed, and with other records in their place."""
+    check.equal("W's file", load(data, 6), Loaded(3, 2, e, [bits_of(x) for x in W_SHEET]))
+    check.equal("its weights", data[rows + 48:].hex(), "100000000300" "000000000000f03f" "0000000000000040")
+    for cut in range(len(data)):
+        row_due = 0 if cut < rows else 1 + (cut - rows) // 24
+        check.equal(f"cut at {cut}", load(data[:cut], 0), Refused(11, row_due))
+    for at, form, values, expected in [
+            (0, "<I", (0, 1, 8, 14, 15), Refused(13, 3)), (0, "<I", (17, 24, 2 ** 32 - 1), Refused(11, 3)),
+            (4, "<H", (0, 1, 2, 4, 259), Refused(13, 3))]:
+        for value in values:
+            check.equal(f"field at {at} of the weights is {value}",
+                        load(changed(data, rows + 48 + at, form, value), 0), expected)
+    before, weights = data[:rows + 48], data[rows + 48:]
+    third_row = record(SHEET_ROW, struct.pack("<H2Q", 3, 0, 0))
+    for what, file, expected in [
+            ("a longer record in their place", before + record(SHEET_WEIGHTS, bytes(24)), Refused(13, 3)),
+            ("an empty record in their place", before + record(SHEET_WEIGHTS, b""), Refused(13, 3)),
+            ("a third row in their place", before + third_row, Refused(13, 3)),
+            ("the weights as a row", before + record(SHEET_ROW, weights[6:]), Refused(13, 3)),
+            ("14 after the weights", data + b"\0", Refused(14)), ("weights twice", data + weights, Refused(14)),
+            ("a third row after them", data + third_row, Refused(14)),
+            ("weights before the rows", data[:rows] + weights + data[rows:rows + 48], Refused(13, 1)),
+            ("13 of the weights before 14", before + record(SHEET_WEIGHTS, b"") + bytes(9), Refused(13, 3)),
+            ("13 of a row before 11 of the weights", changed(before, rows + 30, "<H", 9), Refused(13, 2)),
+            ("the same with reading 1", changed(data, 6, "<H", 1), Refused(14)),
+            ("the same with reading 2", changed(data, 6, "<H", 2), Refused(14)),
+            ("the same with reading 4", changed(data, 6, "<H", 4), Refused(12))]:
+        check.equal(what, load(file, 0), expected)
+    for reading in (LEAVING_RATES, MARGINS):
+        without = make_file(reading, 2, e, W_SHEET)
+        check.equal("no weights where they are due", load(changed(without, 6, "<H", 3), 0), Refused(11, 3))
+    for room in range(6):
+        check.equal(f"4 of W's file in {room} places", load(data, room), Refused(4))
 
 
 def test_damaged_file(check: Checks, data: bytes, rows: int, e: int) -> None:
@@ -2159,7 +2427,8 @@ def test_damaged_file(check: Checks, data: bytes, rows: int, e: int) -> None:
     head, first, second, after = Refused(12), Refused(13, 1), Refused(13, 2), rows + 42
     for at, form, values, expected in [
             (0, "<I", (0, 3, 5, 7, 8, 48, after), head), (0, "<I", (after + 1, 2 ** 31, 2 ** 32 - 1), Refused(11, 0)),
-            (4, "<H", (0, 2, 3, 257), head), (6, "<H", (0, 3, 257), head), (6, "<H", (2,), Loaded(2, 2, e, words)),
+            (4, "<H", (0, 2, 3, 257), head), (6, "<H", (0, 4, 257), head), (6, "<H", (2,), Loaded(2, 2, e, words)),
+            (6, "<H", (3,), Refused(11, 3)),
             (8, "<H", (0, 33, 258, 65535), head), (8, "<H", (1, 3, 32), first),
             (rows, "<I", (0, 1, 17, 19, 42), first), (rows, "<I", (43, 2 ** 32 - 1), Refused(11, 1)),
             (rows + 4, "<H", (0, 1, 3, 258), first), (rows + 6, "<H", (0, 2, 257), first),
@@ -2177,7 +2446,7 @@ def test_damaged_file(check: Checks, data: bytes, rows: int, e: int) -> None:
 def test_units_of_files(check: Checks) -> None:
     """The e of a head (02, U5): two bytes in two's complement, both ends of its range, and the lengths of a head."""
     words = [bits_of(x) for x in P_SHEET]
-    rows = make_rows(2, words)
+    rows = make_records(LEAVING_RATES, 2, words)
 
     def file_with(payload: bytes) -> bytes:
         return record(HEAD, payload) + rows
@@ -2197,7 +2466,8 @@ def test_units_of_files(check: Checks) -> None:
     check.equal("a head of four bytes", load(file_with(b"\1\0\2\0"), 4), Loaded(1, 2, 0, words))
     check.equal("12 of a whole head, a cut row", load(record(HEAD, b"\1\0\2\0\1\2") + rows[:3], 0), Refused(12))
     check.equal("a short head of 33 stages", load(make_short_head(1, 33) + rows, 4), Refused(12))
-    check.equal("a short head of reading 3", load(make_short_head(3, 2) + rows, 4), Refused(12))
+    check.equal("a short head of reading 3, no weights", load(make_short_head(3, 2) + rows, 6), Refused(11, 3))
+    check.equal("a short head of reading 4", load(make_short_head(4, 2) + rows, 4), Refused(12))
     for e in UNITS:
         short = make_short_file(2, 2, P_SHEET)
         check.equal("a four-byte head saved", save(2, 2, load(short, 4).e, load(short, 4).words, 60),
@@ -2205,11 +2475,19 @@ def test_units_of_files(check: Checks) -> None:
         data = make_file(1, 2, e, P_SHEET)
         again = load(data, 4)
         check.equal("a six-byte head saved", save(again.reading, again.n, again.e, again.words, 60), Saved(data))
+        short = make_short_file(3, 2, W_SHEET)
+        check.equal("the same with weights", save(3, 2, load(short, 6).e, load(short, 6).words, 82),
+                    Saved(bytes.fromhex("060000000100" "03000200" "0000") + short[10:]))
     mailed = load(make_short_file(1, 2, P_SHEET), 4)
     in_ticks = move(mailed.reading, mailed.n, mailed.e, mailed.numbers, -10, 4)
     saved = save_numbers(mailed.reading, mailed.n, in_ticks.e, in_ticks.numbers, 60)
     check.equal("P loaded, moved to ticks and saved", dwell(saved.data), "seconds 2 32 -10\n1 1 4090000000000000\n"
                 "1 2 4090000000000000\n2 1 4090000000000000\n2 2 40a0000000000000\n")
+    mailed = load(make_short_file(3, 2, W_SHEET), 6)
+    moved = move(mailed.reading, mailed.n, mailed.e, mailed.numbers, 2, 6)
+    saved = save_numbers(mailed.reading, mailed.n, moved.e, moved.numbers, 82)
+    check.equal("W loaded, moved to four seconds and saved", dwell(saved.data), "seconds 2 48 2\n"
+                "1 1 3fb4000000000000\n1 2 3fb0000000000000\n2 1 3fb0000000000000\n2 2 3fd0000000000000\n")
 
 
 def test_saving(check: Checks, rng: random.Random) -> None:
@@ -2217,27 +2495,36 @@ def test_saving(check: Checks, rng: random.Random) -> None:
     check.equal("P saved", save(1, 2, -10, [bits_of(x) for x in P_SHEET], 60), Saved(bytes.fromhex(
         "060000000100" "01000200" "f6ff" "120000000200" "0100" "000000000000f03f" "000000000000f0bf"
         "120000000200" "0200" "000000000000f0bf" "0000000000000000")))
+    check.equal("W saved", save(3, 2, 512, [bits_of(x) for x in W_SHEET], 82), Saved(bytes.fromhex(
+        "060000000100" "03000200" "0002" "120000000200" "0100" "0000000000000040" "000000000000f0bf"
+        "120000000200" "0200" "000000000000f0bf" "000000000000f83f" "100000000300" "000000000000f03f"
+        "0000000000000040")))
     for what, arguments, expected in [
-            ("reading 0", (0, 0, 513, [], 0), 1), ("reading 3", (3, 33, 0, [], 0), 1),
+            ("reading 0", (0, 0, 513, [], 0), 1), ("reading 4", (4, 33, 0, [], 0), 1),
             ("n = 0", (1, 0, -513, [], 0), 2), ("n = 33", (2, 33, 0, [0] * 1089, 9000), 2),
             ("n = 2^63", (1, 2 ** 63, 513, [], 0), 2),
             ("e = 513", (1, 2, 513, [0] * 3, 0), 12), ("e = -513", (2, 2, -513, [0] * 4, 60), 12),
             ("a number too few", (1, 2, 512, [0] * 3, 0), 3), ("a number too many", (2, 2, -512, [0] * 5, 60), 3),
-            ("a byte too few", (1, 2, 0, [0] * 4, 59), 4), ("no room", (2, 1, 0, [0], 0), 4)]:
+            ("a byte too few", (1, 2, 0, [0] * 4, 59), 4), ("no room", (2, 1, 0, [0], 0), 4),
+            ("no weights", (3, 2, 0, [0] * 4, 0), 3), ("a weight too few", (3, 2, 0, [0] * 5, 82), 3),
+            ("a weight too many", (3, 2, 0, [0] * 7, 82), 3), ("weights in reading 1", (1, 2, 0, [0] * 6, 82), 3),
+            ("a byte too few for weights", (3, 2, 0, [0] * 6, 81), 4)]:
         check.equal(f"saving, {what}", save(*arguments), Refused(expected))
-    for reading in (1, 2):
+    for reading in READINGS:
         for n in range(1, LIMIT + 1):
-            e, size = check.unit(), 12 + n * (8 * n + 8)
+            e, size, count = check.unit(), 12 + n * (8 * n + 8), n * n
+            if reading == 3:
+                size, count = size + 8 * n + 6, count + n
             words = [rng.choice([rng.getrandbits(64), 0x7ff0000000000001, 0xfff8000000000000, 0, 1 << 63, 1])
-                     for _ in range(n * n)]
+                     for _ in range(count)]
             saved = save(reading, n, e, words, size)
             check.true(f"{n} stages saved", isinstance(saved, Saved) and len(saved.data) == size)
-            check.equal("loaded again", load(saved.data, n * n), Loaded(reading, n, e, words))
-            check.equal("saved again", save(reading, n, e, load(saved.data, n * n).words, size + 5), saved)
+            check.equal("loaded again", load(saved.data, count), Loaded(reading, n, e, words))
+            check.equal("saved again", save(reading, n, e, load(saved.data, count).words, size + 5), saved)
             check.equal("one byte too few", save(reading, n, e, words, size - 1), Refused(4))
-            numbers = load(saved.data, n * n).numbers
+            numbers = load(saved.data, count).numbers
             as_one_nan = [ONE_NAN if x != x else word for x, word in zip(numbers, words)]
-            check.equal("numbers, NaN as one", load(save_numbers(reading, n, e, numbers, size).data, n * n),
+            check.equal("numbers, NaN as one", load(save_numbers(reading, n, e, numbers, size).data, count),
                         Loaded(reading, n, e, as_one_nan))
 
 
@@ -2255,10 +2542,16 @@ def test_dwell(check: Checks) -> None:
     check.equal("dwell of D", dwell(make_file(1, 2, 512, [1.0, -0.0, 0.0, -0.0])),
                 "seconds 2 32 512\n1 1 3ff0000000000000\n1 2 0000000000000000\n"
                 "2 1 0000000000000000\n2 2 0000000000000000\n")
-    longest = make_file(1, 32, -10, [2.0 if i == j else 0.0 for i in range(32) for j in range(32)])
-    lines = dwell(longest).split("\n")
-    check.equal("dwell of a longest file", (lines[0], lines[33], lines[1024:]),
-                ("seconds 32 131072 -10", "2 1 0000000000000000", ["32 32 3fe0000000000000", ""]))
+    check.equal("dwell of W", dwell(make_file(3, 2, 0, W_SHEET)), "seconds 2 48 0\n1 1 3fd4000000000000\n"
+                "1 2 3fd0000000000000\n2 1 3fd0000000000000\n2 2 3ff0000000000000\n")
+    check.equal("dwell of a weight, a short head", dwell(make_short_file(3, 1, [2.0, 0.5])),
+                "seconds 1 6 0\n1 1 3fd0000000000000\n")
+    doubled = [2.0 if i == j else 0.0 for i in range(32) for j in range(32)]
+    longest = make_file(3, 32, -10, doubled + [4.0] * 32)
+    for data, first, last in ((make_file(1, 32, -10, doubled), "131072", "3fe"), (longest, "196608", "400")):
+        lines = dwell(data).split("\n")
+        check.equal("dwell of 32 stages", (lines[0], lines[33], lines[1024:]),
+                    (f"seconds 32 {first} -10", "2 1 0000000000000000", [f"32 32 {last}0000000000000", ""]))
     for what, data, line in [
             ("nothing", b"", "11 0 0"),
             ("a way in and none out", make_file(1, 2, 0, [1.0, -1.0, 0.0, 0.0]), "9 2 0"),
@@ -2268,19 +2561,24 @@ def test_dwell(check: Checks) -> None:
             ("a signalling NaN", make_file_words(1, 1, 0, [0x7ff0000000000001]), "6 1 1"),
             ("a cut row", make_file(1, 2, 0, P_SHEET)[:-1], "11 2 0"), ("n = 33", make_head(1, 33, 0), "12 0 0"),
             ("n = 33 by document 01", record(1, b"\1\0\x21\0"), "12 0 0"),
-            ("reading 3", record(1, b"\3\0\1\0"), "12 0 0"), ("e = 513", make_file(1, 2, 513, P_SHEET), "12 0 0"),
+            ("reading 4", record(1, b"\4\0\1\0"), "12 0 0"), ("reading 3 alone", record(1, b"\3\0\1\0"), "11 1 0"),
+            ("no weights", make_head(3, 2, 0) + make_records(1, 2, [bits_of(1.0)] * 4), "11 3 0"),
+            ("weights that are not due", make_head(1, 2, 0) + make_records(3, 2, [bits_of(1.0)] * 6), "14 0 0"),
+            ("a weight that is NaN", make_file(3, 1, 0, [0.0, NAN]), "6 2 1"),
+            ("a weight that is 0", make_file(3, 1, 0, [2.0, 0.0]), "7 2 1"),
+            ("e = 513", make_file(1, 2, 513, P_SHEET), "12 0 0"),
             ("e = -513", make_file(1, 2, -513, P_SHEET), "12 0 0"),
             ("a head of five bytes", record(1, b"\1\0\1\0\0"), "12 0 0"), ("more bytes", longest + b"\0", "14 0 0"),
             ("many more bytes", longest + bytes(9000), "14 0 0"),
-            ("length 8456", struct.pack("<IH", 8456, 2) + bytes(10000), "11 0 0"),
-            ("length 8455", struct.pack("<IH", 8455, 2) + bytes(10000), "12 0 0")]:
+            ("length 8718", struct.pack("<IH", 8718, 2) + bytes(10000), "11 0 0"),
+            ("length 8717", struct.pack("<IH", 8717, 2) + bytes(10000), "12 0 0")]:
         check.equal(f"dwell of {what}", dwell(data), f"refused {line}\n")
 
 
 def test_exact_side(check: Checks, rng: random.Random) -> None:
     """A times X is the identity over Fractions, the bounds enclose, and the rule is the rule's words."""
-    for round_ in range(60):
-        reading, n = rng.choice([1, 2]), rng.randint(1, 5)
+    for round_ in range(90):
+        reading, n = rng.choice(READINGS), rng.randint(1, 5)
         sheet = random_sheet(rng, reading, n, random_style(rng))
         a = exact_matrix(reading, n, sheet)
         low, high = exact_bounds(reading, n, sheet)
@@ -2289,8 +2587,10 @@ def test_exact_side(check: Checks, rng: random.Random) -> None:
         product = [[sum(a[i][l] * x[l][j] for l in range(n)) for j in range(n)] for i in range(n)]
         check.equal("A times X", product, [[int(i == j) for j in range(n)] for i in range(n)])
         check.true("X is not negative", all(q >= 0 for row in x for q in row))
-        if reading == LEAVING_RATES:
-            check.equal("row sums", [sum(row) for row in a], [Fraction(sheet[i * n + i]) for i in range(n)])
+        if reading != MARGINS:
+            z = [Fraction(weight) for weight in sheet[n * n:]] or [1] * n
+            check.equal("s = Az", [sum(a_ij * z_j for a_ij, z_j in zip(row, z)) for row in a],
+                        [Fraction(sheet[i * n + i]) for i in range(n)])
         elif round_ % 2:
             below, above = trimmed_bounds(reading, n, sheet)
             check.true("trimmed bounds enclose", all(
@@ -2304,6 +2604,9 @@ def test_exact_side(check: Checks, rng: random.Random) -> None:
         check.true("negative", not near((-1, 1), (-1, 1), exponent))
     check.equal("units", (roundings((2 ** 53 + 3, 2), (2 ** 52, 1)), roundings((2 ** 52, 1), (2 ** 53 + 3, 2)),
                           roundings((0, 1), (0, 2)), roundings((0, 1), (1, 2))), (3.0, 3.0, 0.0, INF))
+
+
+NAMES_OF_READINGS = {LEAVING_RATES: "leaving rates", MARGINS: "margins", WEIGHTS: "weights"}
 
 
 @dataclass
@@ -2345,8 +2648,8 @@ def check_accuracy(check: Checks, worst: Worst, n: int, sheet: list[float]) -> b
 
 
 def test_random_sheets(check: Checks, rng: random.Random, long: bool) -> None:
-    """Random sheets of both readings against the exact inverse, with sheets at the edge of the range."""
-    for reading, name in ((LEAVING_RATES, "leaving rates"), (MARGINS, "margins")):
+    """Random sheets of each reading against the exact inverse, with sheets at the edge of the range."""
+    for reading, name in NAMES_OF_READINGS.items():
         worst = Worst(reading, name)
         for _ in range(4000 if long else 700):
             n = rng.randint(1, 7)
@@ -2361,7 +2664,7 @@ def test_random_sheets(check: Checks, rng: random.Random, long: bool) -> None:
             if pair is not None:
                 worst.edges += 1
                 apart = [abs(bits_of(x) - bits_of(y)) for x, y in zip(*pair)]
-                check.equal("one last place apart", sorted(apart), [0] * (n * n - 1) + [1])
+                check.equal("one last place apart", sorted(apart), [0] * (len(apart) - 1) + [1])
                 check.true("accepted at the edge", check_accuracy(check, worst, n, pair[0]))
                 check.gives("refused at the edge", reading, n, pair[1], Refused(10))
         for _ in range(30):
@@ -2415,9 +2718,11 @@ def self_test(long: bool) -> int:
     try:
         test_document_sheets(check)
         test_order_and_places(check)
+        test_places_of_weights(check)
+        test_random_places(check, rng)
         test_zeros(check)
         test_range(check)
-        test_margins(check)
+        test_order_of_steps(check)
         test_rounding(check, rng)
         test_literal_steps(check, rng)
         test_column_questions(check)
@@ -2456,9 +2761,9 @@ def self_test(long: bool) -> int:
 
 USAGE = """usage: reference.py COMMAND
   dwell < FILE               print what the dwell program prints for this sheet file
-  file READING N E NUMBER... write a sheet file, its unit being 2^E seconds, to standard output; a number is a
-                             decimal or hexadecimal float (-0.5, -0x1p-1022, nan, inf) or a word of 0x and 16
-                             hexadecimal digits
+  file READING N E NUMBER... write a sheet file, its unit being 2^E seconds, to standard output, from N × N numbers
+                             and, in reading 3, N weights; a number is a decimal or hexadecimal float (-0.5,
+                             -0x1p-1022, nan, inf) or a word of 0x and 16 hexadecimal digits
   accuracy < FILE            print for each entry: row, column, bits, its error in roundings (units of
                              2^-53) and in allowances, and whether the accuracy rule holds
   --self-test [--long]       check this reference; --long takes minutes and goes through every n up to 32
@@ -2488,12 +2793,13 @@ def print_accuracy(data: bytes) -> int:
 
 
 def write_file(arguments: list[str]) -> int:
-    """The file command: reading, n, e, then n × n numbers."""
+    """The file command: reading, n, e, then the numbers of the sheet."""
     try:
         reading, n, e = (int(text) for text in arguments[:3])
         words = [parse_word(text) for text in arguments[3:]]
-        if len(words) != n * n:
-            raise ValueError(f"{n} stages need {n * n} numbers, not {len(words)}")
+        needed = sheet_length(reading, n)
+        if len(words) != needed:
+            raise ValueError(f"{n} stages in reading {reading} need {needed} numbers, not {len(words)}")
         data = make_file_words(reading, n, e, words)
     except (ValueError, OverflowError, struct.error) as error:
         print(f"file: {error}", file=sys.stderr)

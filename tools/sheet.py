@@ -22,9 +22,13 @@ from typing import Iterable, Iterator, NamedTuple, Sequence
 LIMIT = 32                 # the most stages of a sheet
 LONGEST_TEXT = 1 << 20     # the most bytes read of a text, of unit prices or of dwell's output
 SMALLEST = 2.0 ** -1022    # the smallest size of a number that is not zero
-LEAVING_RATES, MARGINS = 1, 2
-READINGS = {"leaving-rates": LEAVING_RATES, "margins": MARGINS}
-DIAGONAL_WORDS = {"leaves": LEAVING_RATES, "margin": MARGINS}
+LEAVING_RATES, MARGINS, WEIGHTS = 1, 2, 3
+READINGS = {"leaving-rates": LEAVING_RATES, "margins": MARGINS, "weights": WEIGHTS}
+# The words for the parameters of a stage, that on the diagonal first, and what each of them is called
+PARAMETER_WORDS = {LEAVING_RATES: ("leaves",), MARGINS: ("margin",), WEIGHTS: ("sum", "weight")}
+PARAMETER_NAMES = {"leaves": "leaving rate", "margin": "margin", "sum": "weighted row sum", "weight": "weight"}
+LAST_WORDS = {words[-1]: reading for reading, words in PARAMETER_WORDS.items()}     # at the end of a header row
+RATES_ARE_TYPED = "rates are typed as positive numbers"
 IN_SECONDS, IN_TICKS = 0, -10   # the e of units that have a name; any unit is 2^e seconds
 UNITS = {"seconds": IN_SECONDS, "ticks": IN_TICKS}
 FURTHEST_UNIT = 512             # e is from -512 to 512
@@ -144,7 +148,7 @@ class Draft:
     names: list[str] = field(default_factory=list)
     lines: list[int] = field(default_factory=list)      # where each stage is named, or has its row
     rates: dict[tuple[int, int], Given] = field(default_factory=dict)
-    diagonal: dict[int, Given] = field(default_factory=dict)
+    parameters: dict[tuple[int, str], Given] = field(default_factory=dict)      # by stage and word
 
     def problem(self, line: int, message: str) -> Problem:
         """A problem with its place."""
@@ -175,10 +179,6 @@ class Draft:
         """The number of a stage that was named before."""
         return stage_at(self.source, line, self.names, name)
 
-    def number(self, text: str, line: int) -> float:
-        """A typed number that is zero or positive."""
-        return size_at(self.source, line, text, "rates are typed as positive numbers")
-
     def add_rate(self, i: int, j: int, text: str, line: int) -> None:
         """Takes the rate from stage i to stage j."""
         where = f"from {self.names[i]!r} to {self.names[j]!r}"
@@ -187,18 +187,27 @@ class Draft:
         if (i, j) in self.rates:
             first = self.rates[i, j].line
             raise self.problem(line, f"the rate {where} is given twice (first on line {first})")
-        self.rates[i, j] = Given(self.number(text, line), line)
+        self.rates[i, j] = Given(size_at(self.source, line, text, RATES_ARE_TYPED), line)
 
-    def add_diagonal(self, i: int, text: str, line: int) -> None:
-        """Takes the leaving rate or the margin of stage i."""
-        what = f"the {'leaving rate' if self.reading == LEAVING_RATES else 'margin'} of {self.names[i]!r}"
-        if i in self.diagonal:
-            first = self.diagonal[i].line
+    def add_parameter(self, i: int, word: str, text: str, line: int) -> None:
+        """Takes a parameter of stage i, by its word; all but leaving rates have to be positive."""
+        what = f"the {PARAMETER_NAMES[word]} of {self.names[i]!r}"
+        if (i, word) in self.parameters:
+            first = self.parameters[i, word].line
             raise self.problem(line, f"{what} is given twice (first on line {first})")
-        number = self.number(text, line)
-        if self.reading == MARGINS and number == 0.0:
-            raise self.problem(line, f"{what} is zero (margins are positive)")
-        self.diagonal[i] = Given(number, line)
+        rule = RATES_ARE_TYPED if self.reading == LEAVING_RATES else f"{PARAMETER_NAMES[word]}s are positive"
+        number = size_at(self.source, line, text, rule)
+        if self.reading != LEAVING_RATES and number == 0.0:
+            raise self.problem(line, f"{what} is zero ({rule})")
+        self.parameters[i, word] = Given(number, line)
+
+    def parameter(self, i: int, word: str) -> float:
+        """A parameter of stage i: a missing leaving rate is zero, another missing one is a problem."""
+        if (i, word) in self.parameters:
+            return self.parameters[i, word].number
+        if self.reading != LEAVING_RATES:
+            raise self.problem(self.lines[i], f"stage {self.names[i]!r} has no {PARAMETER_NAMES[word]}")
+        return 0.0
 
 
 def problem_at(source: str, line: int, message: str) -> Problem:
@@ -240,9 +249,10 @@ def read_text(source: str, lines: Sequence[str]) -> Draft:
         first = line.split()[0]
         if first == "reading":
             return read_lines(source, lines)
-        if separator_of(line, DIAGONAL_WORDS) is None or (first in FIRST_WORDS and "\t" not in line):
-            raise problem_at(source, at, "a text begins with 'reading leaving-rates', 'reading margins' or "
-                                         "a header row of stage names, which a row with the unit may precede")
+        if separator_of(line, LAST_WORDS) is None or (first in FIRST_WORDS and "\t" not in line):
+            raise problem_at(source, at, "a text begins with 'reading leaving-rates', 'reading margins', 'reading "
+                                         "weights' or a header row of stage names, which a row with the unit may "
+                                         "precede")
         return read_matrix(source, lines)
     raise problem_at(source, len(lines), "the text is empty")
 
@@ -286,7 +296,7 @@ def split_line(source: str, at: int, line: str) -> list[str]:
 
 
 def read_lines(source: str, lines: Sequence[str]) -> Draft:
-    """The draft of a text in lines: the reading first, then the unit, stages, rates and leaving rates or margins."""
+    """The draft of a text in lines: the reading first, then the unit, stages, rates and parameters."""
     draft: Draft | None = None
     for at, line in enumerate(lines, 1):
         words = split_line(source, at, line)
@@ -302,7 +312,7 @@ def read_lines(source: str, lines: Sequence[str]) -> Draft:
 def take_reading(source: str, at: int, words: Sequence[str]) -> int:
     """The reading that the first line names."""
     if len(words) != 2 or words[1] not in READINGS:
-        raise problem_at(source, at, "the reading is 'leaving-rates' or 'margins'")
+        raise problem_at(source, at, "the reading is 'leaving-rates', 'margins' or 'weights'")
     return READINGS[words[1]]
 
 
@@ -320,10 +330,10 @@ def take_line(draft: Draft, at: int, line: str, words: Sequence[str]) -> None:
         draft.take_unit(words[1:], at, STAGE_OF_THIS_NAME)
     elif words[0] in ("stage", "stages"):
         take_stages(draft, at, words)
-    elif len(words) == 3 and words[1] in DIAGONAL_WORDS:
-        take_diagonal(draft, at, words)
+    elif len(words) == 3 and words[1] in PARAMETER_NAMES:
+        take_parameter(draft, at, words)
     else:
-        raise draft.problem(at, wrong_shape(line, words))
+        raise draft.problem(at, wrong_shape(draft.reading, line, words))
 
 
 def take_stages(draft: Draft, at: int, words: Sequence[str]) -> None:
@@ -335,13 +345,13 @@ def take_stages(draft: Draft, at: int, words: Sequence[str]) -> None:
         draft.add_stage(name, at)
 
 
-def take_diagonal(draft: Draft, at: int, words: Sequence[str]) -> None:
-    """Takes a 'NAME leaves RATE' or 'NAME margin VALUE' line."""
+def take_parameter(draft: Draft, at: int, words: Sequence[str]) -> None:
+    """Takes a line with a parameter, such as 'NAME leaves NUMBER'."""
     i = draft.stage(bare(words[0]), at)
-    if DIAGONAL_WORDS[words[1]] != draft.reading:
-        has, not_so = ("leaving rates", "margins") if draft.reading == LEAVING_RATES else ("margins", "leaving rates")
-        raise draft.problem(at, f"this text has {has}, not {not_so}")
-    draft.add_diagonal(i, words[2], at)
+    if words[1] not in PARAMETER_WORDS[draft.reading]:
+        has = PARAMETER_NAMES[PARAMETER_WORDS[draft.reading][-1]]
+        raise draft.problem(at, f"this text has {has}s, not {PARAMETER_NAMES[words[1]]}s")
+    draft.add_parameter(i, words[1], words[2], at)
 
 
 def bare(word: str) -> str:
@@ -349,13 +359,13 @@ def bare(word: str) -> str:
     return word[1:-1].strip() if word.startswith('"') else word
 
 
-def wrong_shape(line: str, words: Sequence[str]) -> str:
+def wrong_shape(reading: int, line: str, words: Sequence[str]) -> str:
     """What to say of a line that has none of the shapes."""
     has_cells = "," in words or ";" in words or "\t" in line.split("#")[0]
-    if has_cells and "->" not in words and not any(word in words for word in DIAGONAL_WORDS):
+    if has_cells and "->" not in words and not any(word in words for word in PARAMETER_NAMES):
         return "a row of a matrix stands among lines (a text keeps to one form)"
-    return ("write 'FROM -> TO RATE', 'NAME leaves RATE' or 'NAME margin VALUE' "
-            "(quote a name with spaces; numbers have a decimal point)")
+    shapes = ["'FROM -> TO RATE'", *(f"'NAME {word} NUMBER'" for word in PARAMETER_WORDS[reading])]
+    return f"write {', '.join(shapes[:-1])} or {shapes[-1]} (quote a name with spaces; numbers have a decimal point)"
 
 
 # ==== The form of a matrix, as a spreadsheet exports it ====
@@ -403,7 +413,7 @@ def read_matrix(source: str, lines: Sequence[str]) -> Draft:
     draft = Draft(source)
     header = 0
     seen: set[int] = set()
-    for at, cells in rows_of(source, lines, DIAGONAL_WORDS):
+    for at, cells in rows_of(source, lines, LAST_WORDS):
         if header:
             take_row(draft, at, cells, seen)
         elif is_unit_row(cells):
@@ -422,23 +432,25 @@ def read_matrix(source: str, lines: Sequence[str]) -> Draft:
 
 def is_unit_row(cells: Sequence[str]) -> bool:
     """Whether a row before the stages says the unit; a header row may have any first cell."""
-    return cells[0].lower() == UNIT_WORD and cells[-1].lower() not in DIAGONAL_WORDS
+    return cells[0].lower() == UNIT_WORD and cells[-1].lower() not in LAST_WORDS
 
 
 def take_header(draft: Draft, at: int, cells: Sequence[str]) -> None:
-    """Takes a header row: any first cell, the names, and 'leaves' or 'margin' as the last."""
-    last = cells[-1].lower()
-    if last not in DIAGONAL_WORDS or len(cells) < 3:
-        raise draft.problem(at, "a header row has a first cell, the stage names, and 'leaves' or 'margin' "
-                                "as its last cell")
-    draft.reading = DIAGONAL_WORDS[last]
-    for name in cells[1:-1]:
+    """Takes a header row: any first cell, the names, and the words for the parameters of a stage."""
+    reading = LAST_WORDS.get(cells[-1].lower(), 0)
+    words = PARAMETER_WORDS.get(reading, ())
+    names = cells[1:len(cells) - len(words)]
+    if not words or not names or tuple(cell.lower() for cell in cells[-len(words):]) != words:
+        raise draft.problem(at, "a header row has a first cell, the stage names, and 'leaves', 'margin' or the two "
+                                "cells 'sum' and 'weight' at its end")
+    draft.reading = reading
+    for name in names:
         draft.add_stage(name, at)
 
 
 def take_row(draft: Draft, at: int, cells: Sequence[str], seen: set[int]) -> None:
-    """Takes the row of one stage: its name, its rates, and its leaving rate or margin."""
-    n = len(draft.names)
+    """Takes the row of one stage: its name, its rates and its parameters."""
+    n, words = len(draft.names), PARAMETER_WORDS[draft.reading]
     if len(cells) == 1 and cells[0] not in draft.names and is_line(cells[0]):
         raise draft.problem(at, "a line of the other form stands in a matrix (a text keeps to one form)")
     if cells[0] not in draft.names and is_unit_row(cells):
@@ -446,21 +458,22 @@ def take_row(draft: Draft, at: int, cells: Sequence[str], seen: set[int]) -> Non
     i = draft.stage(cells[0], at)
     if i in seen:
         raise draft.problem(at, f"stage {cells[0]!r} has two rows (first on line {draft.lines[i]})")
-    if len(cells) > n + 2:
-        raise draft.problem(at, f"the row has {len(cells)} cells, the header has {n + 2}")
+    if len(cells) > 1 + n + len(words):
+        raise draft.problem(at, f"the row has {len(cells)} cells, the header has {1 + n + len(words)}")
     seen.add(i)
     draft.lines[i] = at
     for j, cell in enumerate(cells[1:n + 1]):
         if is_filled(cell) and not (i == j and is_zero(cell)):
             draft.add_rate(i, j, cell, at)
-    if len(cells) == n + 2 and is_filled(cells[-1]):
-        draft.add_diagonal(i, cells[-1], at)
+    for word, cell in zip(words, cells[n + 1:]):
+        if is_filled(cell):
+            draft.add_parameter(i, word, cell, at)
 
 
 def is_line(cell: str) -> bool:
     """Whether this looks like a line of the other form."""
     words = cell.split()
-    return "->" in cell or words[0] in FIRST_WORDS or any(word in words for word in DIAGONAL_WORDS)
+    return "->" in cell or words[0] in FIRST_WORDS or any(word in words for word in PARAMETER_NAMES)
 
 
 def is_filled(cell: str) -> bool:
@@ -480,11 +493,17 @@ def is_zero(cell: str) -> bool:
 
 @dataclass(frozen=True)
 class Sheet:
-    """A sheet as its file holds it, in units of 2^e seconds: n × n numbers by their bits, row by row."""
+    """A sheet as its file holds it, in units of 2^e seconds: n × n numbers by their bits, row by row, and in
+    reading 3 n weights after them."""
     reading: int
     n: int
     e: int
     words: list[int]
+
+    def parameters(self, i: int) -> list[int]:
+        """The parameters of stage i by their bits: that on the diagonal, and its weight."""
+        weights = self.words[self.n * self.n:]
+        return [self.words[i * self.n + i], *weights[i:i + 1]]
 
 
 @dataclass(frozen=True)
@@ -496,21 +515,30 @@ class Refused:
 
 
 def sheet_of(draft: Draft) -> Sheet:
-    """The sheet of a text; a missing rate or leaving rate is zero, a missing margin is a problem."""
-    n = len(draft.names)
+    """The sheet of a text; a missing rate or leaving rate is zero, another missing parameter is a problem."""
+    n, words = len(draft.names), PARAMETER_WORDS[draft.reading]
+    of_stages = [[draft.parameter(i, word) for word in words] for i in range(n)]
+    diagonal, *weights = zip(*of_stages, strict=True)
     numbers = [0.0] * (n * n)
+    numbers[::n + 1] = diagonal
     for (i, j), rate in draft.rates.items():
         numbers[i * n + j] = 0.0 - rate.number
-    for i, name in enumerate(draft.names):
-        if i not in draft.diagonal and draft.reading == MARGINS:
-            raise problem_at(draft.source, draft.lines[i], f"stage {name!r} has no margin")
-        numbers[i * n + i] = draft.diagonal[i].number if i in draft.diagonal else 0.0
-    return Sheet(draft.reading, n, draft.e, [word_of(number) for number in numbers])
+    return Sheet(draft.reading, n, draft.e, [word_of(number) for part in (numbers, *weights) for number in part])
 
 
 HEAD = "<HHh"           # reading, n and a signed e
 SHORT_HEAD = "<HH"      # a head from before units, which is still read: e is 0
-LONGEST_FILE = 6 + struct.calcsize(HEAD) + LIMIT * (6 + 2 + 8 * LIMIT)  # the most bytes of a sheet file
+
+
+def rows_due(reading: int, n: int) -> range:
+    """The rows of a sheet file, which the weights follow as row n + 1."""
+    return range(1, n + 2 if reading == WEIGHTS else n + 1)
+
+
+def row_start(n: int, row: int) -> tuple[int, bytes]:
+    """The kind of the record that is due as a row, and what stands before its n numbers: a row has its own number
+    there, and the weights nothing."""
+    return (2, struct.pack("<H", row)) if row <= n else (3, b"")
 
 
 def record(kind: int, payload: bytes) -> bytes:
@@ -519,10 +547,15 @@ def record(kind: int, payload: bytes) -> bytes:
 
 
 def file_of(sheet: Sheet) -> bytes:
-    """The sheet file: a head, then the rows."""
-    n = sheet.n
-    rows = [record(2, struct.pack(f"<H{n}Q", i + 1, *sheet.words[i * n:(i + 1) * n])) for i in range(n)]
-    return record(1, struct.pack(HEAD, sheet.reading, n, sheet.e)) + b"".join(rows)
+    """The sheet file: a head, then the rows, then the weights if there are any."""
+    n, data = sheet.n, record(1, struct.pack(HEAD, sheet.reading, sheet.n, sheet.e))
+    for row in rows_due(sheet.reading, n):
+        kind, start = row_start(n, row)
+        data += record(kind, start + struct.pack(f"<{n}Q", *sheet.words[(row - 1) * n:row * n]))
+    return data
+
+
+LONGEST_FILE = len(file_of(Sheet(WEIGHTS, LIMIT, IN_SECONDS, [0] * (LIMIT + 1) * LIMIT)))
 
 
 def take_record(data: bytes, at: int) -> tuple[int, bytes, int] | None:
@@ -556,14 +589,15 @@ def read_file(data: bytes) -> Sheet | Refused:
         return Refused(12)
     reading, n, e = said
     words: list[int] = []
-    for row in range(1, n + 1):
+    for row in rows_due(reading, n):
         due = take_record(data, at)
         if due is None:
             return Refused(11, row)
         kind, payload, at = due
-        if kind != 2 or len(payload) != 2 + 8 * n or struct.unpack_from("<H", payload)[0] != row:
+        kind_due, start = row_start(n, row)
+        if kind != kind_due or len(payload) != len(start) + 8 * n or not payload.startswith(start):
             return Refused(13, row)
-        words += struct.unpack_from(f"<{n}Q", payload, 2)
+        words += struct.unpack_from(f"<{n}Q", payload, len(start))
     return Sheet(reading, n, e, words) if at == len(data) else Refused(14)
 
 
@@ -582,15 +616,15 @@ def show_text(sheet: Sheet, names: Sequence[str]) -> str:
 
 
 def stage_lines(sheet: Sheet, quoted: Sequence[str], i: int) -> Iterator[str]:
-    """The lines of one stage: its rates, then its leaving rate or margin; plus zeros are left out."""
-    last = next(word for word, reading in DIAGONAL_WORDS.items() if reading == sheet.reading)
+    """The lines of one stage: its rates, then its parameters; rates and leaving rates that are plus zero are left
+    out."""
     for j in range(sheet.n):
         word = sheet.words[i * sheet.n + j]
         if i != j and word != 0:
             yield f"{quoted[i]} -> {quoted[j]} {shown(word, 0.0 - number_of(word))}"
-    word = sheet.words[i * sheet.n + i]
-    if word != 0 or sheet.reading == MARGINS:
-        yield f"{quoted[i]} {last} {shown(word, number_of(word))}"
+    for text, word in zip(PARAMETER_WORDS[sheet.reading], sheet.parameters(i), strict=True):
+        if word != 0 or sheet.reading != LEAVING_RATES:
+            yield f"{quoted[i]} {text} {shown(word, number_of(word))}"
 
 
 def shown(word: int, typed: float) -> str:
@@ -794,24 +828,25 @@ def price_list_text(table: Table, names: Sequence[str], prices: Sequence[float],
 # ==== Refusals in words ====
 
 REASONS = {
-    1: "the reading is neither 1 (leaving rates) nor 2 (margins)",
+    1: "the reading is not 1 (leaving rates), 2 (margins) or 3 (weights), or one column is asked for and it is not 1",
     2: "the number of stages is not from 1 to 32",
-    3: "the sheet does not hold exactly n × n numbers for its n stages",
-    4: "the room lent for the answer is smaller than it needs (n × n numbers for a table or a sheet, n for one column "
-       "or for prices, the file's bytes for saving)",
+    3: "the sheet does not hold exactly n × n numbers for its n stages, and n weights after them in reading 3",
+    4: "the room lent for the answer is smaller than it needs (n × n numbers for a table, as many as the sheet has "
+       "where it is loaded or moved, n for one column or for prices, the file's bytes for saving)",
     5: "a stage that was asked for is not one of the sheet's stages",
     6: "{number} is not a finite number",
-    7: "{number} has the wrong sign (rates and leaving rates are zero or positive, margins are positive)",
+    7: "{number} has the wrong sign (rates and leaving rates are zero or positive; margins, weighted row sums and "
+       "weights are positive)",
     8: "{number} is too small (a number is zero or at least 2^-1022, about 2.2e-308)",
     9: "a request at {stage} never gets out, since no chain of moves leads from there to a stage with a "
        "leaving rate above zero",
-    10: "a step of the calculation leaves the range of binary64 numbers, since some rates or prices are too large, "
-        "too small or too far apart",
+    10: "a step of the calculation leaves the range of binary64 numbers, since some rates, weights or prices are too "
+        "large, too small or too far apart",
     11: "the file ends before {record} is complete",
-    12: "the file does not begin with the head of a sheet (reading 1 or 2, 1 to 32 stages, a unit of 2^E seconds "
+    12: "the file does not begin with the head of a sheet (reading 1, 2 or 3, 1 to 32 stages, a unit of 2^E seconds "
         "with E from -512 to 512), or a call was handed a unit out of that range",
     13: "the file has something else where {record} is due (another kind, length or row number)",
-    14: "the file goes on after its last row",
+    14: "the file goes on after its last row, or in reading 3 after its weights",
     15: "the power of two to move by is not from -512 to 512",
     16: "a number that is moved would be larger than the largest binary64 number, or smaller than 2^-1022",
     17: "the unit of the moved sheet would be out of range (2^E seconds, E from -512 to 512)",
@@ -823,14 +858,33 @@ REASONS = {
 
 def refusal_sentence(refused: Refused, names: Sequence[str]) -> str:
     """A refusal in plain words, with its place and the names of its stages."""
-    stage = stage_label(refused.row, names)
-    number = f"the rate from {stage} to {stage_label(refused.column, names)}"
-    if refused.row == refused.column:
-        number = f"the leaving rate or margin of {stage}"
-    record_name = f"the row of {stage}" if refused.row else "the head"
     reason = REASONS.get(refused.number, "this number has no words here")
-    return (f"refused ({refused.number}{place_of(refused)}): "
-            f"{reason.format(stage=stage, number=number, record=record_name)}.")
+    words = reason.format(stage=stage_label(refused.row, names), number=number_label(refused, names),
+                          record=record_label(refused, names))
+    return f"refused ({refused.number}{place_of(refused)}): {words}."
+
+
+def number_label(refused: Refused, names: Sequence[str]) -> str:
+    """The number of a sheet that stands at a place."""
+    stage, other = stage_label(refused.row, names), stage_label(refused.column, names)
+    if refused.row == refused.column:
+        return f"the leaving rate, margin or weighted row sum of {stage}"
+    if refused.row < refused.column:
+        return f"the rate from {stage} to {other}"
+    return row_label(refused.row, f"the rate from {stage} to {other}", f"the weight of {other}", names)
+
+
+def record_label(refused: Refused, names: Sequence[str]) -> str:
+    """The record of a file that is due as a row."""
+    row = f"the row of {stage_label(refused.row, names)}" if refused.row else "the head"
+    return row_label(refused.row, row, "the record of the weights", names) if refused.row > 1 else row
+
+
+def row_label(row: int, of_row: str, of_weights: str, names: Sequence[str]) -> str:
+    """What a row is called: the weights are row n + 1, and without names n is not known."""
+    if not names:
+        return f"{of_row} (or, in a sheet of weights with n = {row - 1}, {of_weights})"
+    return of_weights if row == len(names) + 1 else of_row
 
 
 def stage_label(number: int, names: Sequence[str]) -> str:
@@ -851,7 +905,7 @@ FORMS = """\
 A text has one of two forms.  Blank lines are left out in both.
 
 Lines, the reading first; # begins a comment:
-  reading leaving-rates          or: reading margins
+  reading leaving-rates          or: reading margins, or: reading weights
   unit ticks                     the time unit: seconds, ticks, or 2^E seconds with E from -512 to 512; a tick
                                  is 2^-10 seconds, 1/1,024 second; without this line the unit is the second
   stages intake signer           the stages in their order, 1 to 32; several such lines may stand
@@ -859,19 +913,27 @@ Lines, the reading first; # begins a comment:
   intake -> signer 0.25          a rate per unit from one stage to another
   signer leaves 1e-6             a leaving rate (reading leaving-rates)
   signer margin 0.5              a margin (reading margins)
+  signer sum 0.25                a weighted row sum (reading weights)
+  signer weight 3                a weight (reading weights)
 
 A matrix, as a spreadsheet exports it, with commas, tabs or semicolons between the cells; a row that
 begins with # is a comment:
   unit,ticks                     the time unit, as above; without this row the unit is the second
-  from,intake,signer,leaves      any first cell, the stages in their order, 'leaves' or 'margin'
-  intake,,0.25,                  a row for each stage: its rates, then its leaving rate or margin
+  from,intake,signer,leaves      any first cell, the stages in their order, then 'leaves', 'margin' or two cells,
+                                 'sum' and 'weight'
+  intake,,0.25,                  a row for each stage: its rates, then its leaving rate, its margin, or its
+                                 weighted row sum and its weight
   signer,0.05,,1e-6              an empty cell, a dash or a missing cell at the end is zero
 
 Rates are per unit, and the table counts units.  Rates are typed as positive numbers, decimal (0.25, 1e-6)
 or hexadecimal (0x1p-20), and rounded to the nearest binary64 number.  A missing rate or leaving rate is
-zero; a missing margin is an error.  With leaving rates, a stage that has none, and no rate to or from
-another stage, is idle: it keeps its place, and its row and column of the table are zero.  The file is
-UTF-8 text.  Errors are one line, FILE:LINE: and what is wrong, with exit status 1."""
+zero; a missing margin, weighted row sum or weight is an error, and so is one of zero.  With leaving rates, a
+stage that has none, and no rate to or from another stage, is idle: it keeps its place, and its row and column
+of the table are zero.  The file is UTF-8 text.  Errors are one line, FILE:LINE: and what is wrong, with exit
+status 1.
+
+The weighted row sum of a stage is the rate at which it is done with a request (1 / its average time there)
+times its weight, minus each rate that leads away from it times the weight of the stage that it leads to."""
 
 PRICE_FORMS = """\
 Unit prices have one of two forms.  Blank lines are left out in both.

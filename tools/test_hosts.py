@@ -24,7 +24,8 @@ from typing import NamedTuple, Optional, Sequence
 from fuzz import EXPORTS, LAWS
 from hosts import ARCHIVE, CC, HEADER, PLACES, ROOT, TEXT_BYTES, Calls, Library, Told, declared, must, run
 import reference
-from reference import LARGEST, POWERS_OUT_OF_RANGE, UNITS, Moved, Refused, Saved, bits_of, number_of
+from reference import (LARGEST, POWERS_OUT_OF_RANGE, READINGS, UNITS, W_SHEET, W_TABLE, WEIGHTS, Moved, Refused,
+                       Saved, bits_of, in_reading, number_of, sheet_length)
 
 STRICT = ["-Wall", "-Wextra", "-pedantic", "-Werror", "-I", str(ROOT / "include")]
 NAN, INF = float("nan"), float("inf")
@@ -108,10 +109,10 @@ class HostTest(unittest.TestCase):
 
     def move(self, reading: int, n: int, sheet: Sequence[float], k: int, room: Optional[int] = None,
              e: Optional[int] = None) -> Told:
-        """A sheet moved by 2^k into a second area of so many places (n × n if not said); an e that is not said is one
-        for which e + k is in its range."""
+        """A sheet moved by 2^k into a second area of so many places (those of the sheet if not said); an e that is
+        not said is one for which e + k is in its range."""
         e = self.rng.choice(reference.units_for_move(k)) if e is None else e
-        return self.calls.move(reading, n, e, [bits_of(x) for x in sheet], k, n * n if room is None else room)
+        return self.calls.move(reading, n, e, [bits_of(x) for x in sheet], k, len(sheet) if room is None else room)
 
     def report(self, data: bytes, room: int = TEXT_BYTES) -> bytes:
         """The report on a file in an area of so many bytes."""
@@ -141,14 +142,17 @@ SHEETS = [
     Sheet(2, 2, [4.0, -3.0, -1.0, 1.0]), Sheet(2, 2, [5.0, 0.0, -3.0, 1.0]), Sheet(2, 2, [SMALLEST, -1.0, 0.0, 1.0]),
     Sheet(2, 3, [1.0, 0.0, -1.0, 0.0, SMALLEST, -1.0, 0.0, 0.0, 1.0]),
     Sheet(1, 3, [1.0, -0.0, -1.0, 0.0, -0.0, -0.0, -1.0, 0.0, 0.0]), Sheet(1, 2, [1.0, -1.0, 0.0, 0.0]),
-    Sheet(1, 2, [0.0, 0.0, 0.0, 2.0 ** 1022]),
+    Sheet(1, 2, [0.0, 0.0, 0.0, 2.0 ** 1022]), Sheet(3, 2, W_SHEET), Sheet(3, 1, [2.0, 0.5]),
+    Sheet(3, 2, [1.0, -SMALLEST, 0.0, 2.0 ** -10, 1.0, 1.0]), Sheet(3, 1, [0.0, NAN]), Sheet(3, 1, [2.0, 0.0]),
+    Sheet(3, 1, [2.0, -0.0]), Sheet(3, 1, [2.0, 2.0 ** -1074]), Sheet(3, 1, [-0.0, 1.0]),
+    Sheet(3, 2, [1.0, -1.0, -0.0, 1.0, 1.0, INF]), Sheet(3, 2, [1.0, 0.0, 0.0, 0.0, 1.0, 1.0]),
 ]
 
 
 def random_sheets(rng: random.Random, stages: Sequence[int], widest: int = 300) -> list[Sheet]:
     """A random sheet of each reading for each number of stages."""
     return [Sheet(reading, n, reference.random_sheet(rng, reading, n, reference.random_style(rng, widest)))
-            for n in stages for reading in (1, 2)]
+            for n in stages for reading in READINGS]
 
 
 def file_of(sheet: Sheet, e: int = 0) -> bytes:
@@ -160,10 +164,11 @@ def good_files(rng: random.Random) -> list[bytes]:
     """Files of every small size and of the longest, with words of all kinds, some with document 01's head."""
     files = [file_of(sheet, e) if e is not None else reference.make_short_file(*sheet)
              for sheet, e in zip(SHEETS + random_sheets(rng, [1, 2, 3, 5, 8, 32]), itertools.cycle([*UNITS, None]))]
-    for n in (1, 4, 32):
-        words = [rng.choice([rng.getrandbits(64), 0x7ff0000000000001 + rng.getrandbits(40)]) for _ in range(n * n)]
-        files.append(reference.make_file_words(rng.choice([1, 2]), n, reference.random_unit(rng), words))
-        files.append(reference.make_short_file_words(rng.choice([1, 2]), n, words))
+    for n, reading in itertools.product((1, 4, 32), READINGS):
+        words = [rng.choice([rng.getrandbits(64), 0x7ff0000000000001 + rng.getrandbits(40)])
+                 for _ in range(sheet_length(reading, n))]
+        files.append(reference.make_file_words(reading, n, reference.random_unit(rng), words))
+        files.append(reference.make_short_file_words(reading, n, words))
     return files
 
 
@@ -179,12 +184,26 @@ def bad_files() -> list[bytes]:
                   whole + b"\0", whole + bytes(9000), rows, head + head + rows, head + rows[row:] + rows[:row],
                   head + rows[:row] + rows[:row]]
         for at, form, value in [(0, "<I", 5), (0, "<I", 7), (0, "<I", 2 ** 32 - 1), (4, "<H", 2), (6, "<H", 0),
-                                (6, "<H", 3), (8, "<H", 0), (8, "<H", 33), (at_rows, "<I", 0), (at_rows, "<I", 17),
-                                (at_rows + 4, "<H", 1), (at_rows + 6, "<H", 2), (at_rows + 6, "<H", 0),
-                                (at_rows + row, "<I", 19), (at_rows + 6 + row, "<H", 1)]:
+                                (6, "<H", 3), (6, "<H", 4), (8, "<H", 0), (8, "<H", 33), (at_rows, "<I", 0),
+                                (at_rows, "<I", 17), (at_rows + 4, "<H", 1), (at_rows + 6, "<H", 2),
+                                (at_rows + 6, "<H", 0), (at_rows + row, "<I", 19), (at_rows + 6 + row, "<H", 1)]:
             changed = bytearray(whole)
             struct.pack_into(form, changed, at, value)
             files.append(bytes(changed))
+    return files + bad_weight_files()
+
+
+def bad_weight_files() -> list[bytes]:
+    """Files whose weights are cut, of another kind or length, missing, in another place or not due."""
+    files = []
+    for whole in (reference.make_file(3, 2, 7, W_SHEET), reference.make_short_file(3, 2, W_SHEET)):
+        before, weights = whole[:-22], whole[-22:]
+        files += [before, before + weights[:5], whole[:-1], whole + b"\0", whole + weights,
+                  before[:-48] + weights + before[-48:], before + before[-24:],
+                  *(before + reference.record(3, bytes(length)) for length in (0, 8, 15, 17, 18, 24)),
+                  *(before + reference.record(kind, bytes(16)) for kind in (0, 1, 2, 4, 259))]
+        for reading in (1, 2):
+            files.append(whole[:6] + struct.pack("<H", reading) + whole[8:])
     return files
 
 
@@ -202,7 +221,7 @@ class TableTest(HostTest):
         """Random sheets of every size, of which most are accepted."""
         sheets = random_sheets(self.rng, range(1, 33), 30) + random_sheets(self.rng, [1, 2, 3, 4, 5, 6, 7] * 12)
         accepted = [sheet.reading for sheet in sheets if self.sheet(*sheet) == (0, 0, 0)]
-        self.assertGreater(min(accepted.count(1), accepted.count(2)), 40)
+        self.assertGreater(min(accepted.count(reading) for reading in READINGS), 40)
 
     def test_edge_of_the_range(self) -> None:
         """Pairs of sheets one last place apart, of which one is accepted and the other is 10."""
@@ -236,14 +255,15 @@ class TableTest(HostTest):
 
     def test_reading_and_size(self) -> None:
         """Readings and sizes out of range, also those at which n × n would not fit a word."""
-        for reading in (0, 3, 2 ** 63, 2 ** 64 - 1):
+        for reading in (0, 4, 2 ** 63, 2 ** 64 - 1):
             self.assertEqual(self.table(reading, 0, [], 0), (1, 0, 0))
             self.assertEqual(self.table(reading, 1, [1.0], 1), (1, 0, 0))
         for n in (0, 33, 2 ** 32, 2 ** 63, 2 ** 64 - 1):
-            for reading in (1, 2):
+            for reading in READINGS:
                 self.assertEqual(self.table(reading, n, [NAN], 0), (2, 0, 0))
                 self.assertEqual(self.table(reading, n, [], 5), (2, 0, 0))
         self.assertEqual(self.table(1, 33, [1.0] * 1089, 1089), (2, 0, 0))
+        self.assertEqual(self.table(3, 33, [1.0] * 1122, 1122), (2, 0, 0))
 
     def test_bits_of_nan(self) -> None:
         """NaN patterns of every kind are 6."""
@@ -272,10 +292,10 @@ class EntryTest(HostTest):
 
     def test_reading_and_size(self) -> None:
         """Readings and sizes out of range."""
-        for reading in (0, 3, 2 ** 64 - 1):
+        for reading in (0, 4, 2 ** 64 - 1):
             self.assertEqual(self.entry(reading, 0, [], 0, 0), (1, 0, 0))
-        for n in (0, 33, 2 ** 32, 2 ** 63, 2 ** 64 - 1):
-            self.assertEqual(self.entry(2, n, [NAN], 0, 0), (2, 0, 0))
+        for n, reading in itertools.product((0, 33, 2 ** 32, 2 ** 63, 2 ** 64 - 1), READINGS):
+            self.assertEqual(self.entry(reading, n, [NAN], 0, 0), (2, 0, 0))
 
 
 class ColumnTest(HostTest):
@@ -285,7 +305,7 @@ class ColumnTest(HostTest):
         """The sheets of the table: 6 to 9 as there; with the table every column, and with 10 not every one."""
         numbers = set()
         for sheet in SHEETS:
-            if sheet.reading == 2:
+            if sheet.reading != 1:
                 self.assertEqual(self.column(*sheet, 1), (1, 0, 0))
                 continue
             whole, answers = self.table(*sheet), self.columns(sheet.n, sheet.numbers)
@@ -371,7 +391,7 @@ class ColumnTest(HostTest):
 
     def test_reading_and_size(self) -> None:
         """Readings other than 1 and sizes out of range, also those at which n × n would not fit a word."""
-        for reading in (0, 2, 3, 2 ** 63, 2 ** 64 - 1):
+        for reading in (0, 2, 3, 4, 2 ** 63, 2 ** 64 - 1):
             self.assertEqual(self.column(reading, 0, [], 0, 0), (1, 0, 0))
             self.assertEqual(self.column(reading, 1, [1.0], 1), (1, 0, 0))
         for n in (0, 33, 2 ** 32, 2 ** 63, 2 ** 64 - 1):
@@ -412,14 +432,14 @@ class PriceTest(HostTest):
             self.assertEqual(self.prices(1, n, sheet, prices), expected)
 
     def test_every_size(self) -> None:
-        """Random sheets of every size and both readings at random prices; most are accepted."""
+        """Random sheets of every size and reading at random prices; most are accepted."""
         answers = []
         for n in range(1, 33):
             for sheet in random_sheets(self.rng, [n], 30):
                 answers += [self.prices(*sheet, prices) for prices in
                             ([1.0] * n, [reference.random_size(self.rng, 3) for _ in range(n)],
                              reference.random_prices(self.rng, n))]
-        self.assertGreater(answers.count((0, 0, 0)), 150)
+        self.assertGreater(answers.count((0, 0, 0)), 220)
 
     def test_edge_of_the_range(self) -> None:
         """Pairs of prices one last place apart, of which one is accepted and the other is 10."""
@@ -459,13 +479,16 @@ class PriceTest(HostTest):
 
     def test_order(self) -> None:
         """Each question before the next, where both are answered no."""
-        for reading in (0, 3, 2 ** 64 - 1):
+        for reading in (0, 4, 2 ** 64 - 1):
             self.assertEqual(self.prices(reading, 0, [], [], 0), (1, 0, 0))
-        for n in (0, 33, 2 ** 32, 2 ** 63, 2 ** 64 - 1):
-            self.assertEqual(self.prices(2, n, [NAN], [NAN], 0), (2, 0, 0))
+        for n, reading in itertools.product((0, 33, 2 ** 32, 2 ** 63, 2 ** 64 - 1), READINGS):
+            self.assertEqual(self.prices(reading, n, [NAN], [NAN], 0), (2, 0, 0))
         for reading, sheet, expected in [
                 (1, [5.0, 1.0, NAN, 1.0], (6, 2, 1)), (2, [1.0, -2.0 ** -1074, 1.0, 1.0], (7, 2, 1)),
-                (1, [0.0, -2.0 ** -1074, 0.0, 0.0], (8, 1, 2)), (1, [1.0, -1.0, 0.0, 0.0], (9, 2, 0))]:
+                (1, [0.0, -2.0 ** -1074, 0.0, 0.0], (8, 1, 2)), (1, [1.0, -1.0, 0.0, 0.0], (9, 2, 0)),
+                (3, [1.0, -1.0, 0.0, 1.0, 1.0, NAN], (6, 3, 2)),
+                (3, [1.0, -2.0 ** -1074, 0.0, 1.0, 0.0, 1.0], (7, 3, 1)),
+                (3, [1.0, -1.0, 0.0, 1.0, 1.0, 2.0 ** -1074], (8, 3, 2))]:
             self.assertEqual(self.prices(reading, 2, sheet, [NAN] * 3), (18, 0, 0))
             self.assertEqual(self.prices(reading, 2, sheet, [NAN] * 2), expected)
 
@@ -559,43 +582,47 @@ class FileTest(HostTest):
     def test_good_files(self) -> None:
         """Files that are read, with room enough, just enough and too little."""
         for data in good_files(self.rng):
-            n = struct.unpack_from("<H", data, 8)[0]
-            for room in (PLACES + 3, n * n + 1, n * n):
+            needed = sheet_length(*struct.unpack_from("<HH", data, 6))
+            for room in (PLACES + 3, needed + 1, needed):
                 self.assertEqual(self.file(data, room), (0, 0, 0))
-            for room in (n * n - 1, 0):
+            for room in (needed - 1, 0):
                 self.assertEqual(self.file(data, room), (4, 0, 0))
 
     def test_bad_files(self) -> None:
-        """Files that are refused, each with room and without; all of 11 to 14 come up."""
+        """Files that are refused, each with room and without; all of 11 to 14 come up, and 11 and 13 of the weights
+        of two stages, which are due as row 3."""
         numbers = {self.file(data, room)[0] for data in bad_files() for room in (PLACES, 0)}
         self.assertEqual(numbers, {11, 12, 13, 14})
+        told = {self.file(data, room) for data in bad_weight_files() for room in (PLACES, 0)}
+        self.assertEqual(told, {(11, 3, 0), (13, 3, 0), (13, 1, 0), (14, 0, 0)})
 
     def test_cut_and_changed_files(self) -> None:
         """A file cut anywhere, and one with any byte changed."""
-        sheet = Sheet(2, 3, [2.0, 0.0, -1.0, 0.0, 4.0, 0.0, 0.0, 0.0, 1.0])
-        for data in (file_of(sheet, -10), reference.make_short_file(*sheet)):
-            for at in range(len(data)):
-                self.file(data[:at])
-                self.file(data[:at] + bytes([data[at] ^ 1 << self.rng.randrange(8)]) + data[at + 1:])
+        numbers = [2.0, 0.0, -1.0, 0.0, 4.0, 0.0, 0.0, 0.0, 1.0]
+        for sheet in (Sheet(2, 3, numbers), Sheet(3, 3, numbers + [3.0, 0.5, 1.0])):
+            for data in (file_of(sheet, -10), reference.make_short_file(*sheet)):
+                for at in range(len(data)):
+                    self.file(data[:at])
+                    self.file(data[:at] + bytes([data[at] ^ 1 << self.rng.randrange(8)]) + data[at + 1:])
 
 
 class SaveTest(HostTest):
     """Saving, of numbers and of words."""
 
-    def words(self, n: int) -> list[int]:
+    def words(self, reading: int, n: int) -> list[int]:
         """Words of all kinds: NaN patterns, zeros of either sign, any bits."""
         return [self.rng.choice([self.rng.getrandbits(64), 0x7ff0000000000001, 0xfff8000000000000, 0, 1 << 63, 1])
-                for _ in range(n * n)]
+                for _ in range(sheet_length(reading, n))]
 
     def test_every_size(self) -> None:
         """Sheets of every size, with room enough, just enough and too little."""
-        for reading in (1, 2):
+        for reading in READINGS:
             for n in range(1, 33):
-                needed = 12 + n * (8 * n + 8)
+                needed = 12 + n * (8 * n + 8) + (8 * n + 6 if reading == 3 else 0)
                 for room in (needed, needed + 1, needed + 99):
-                    self.assertEqual(self.save(reading, n, self.words(n), room), (0, 0, 0))
+                    self.assertEqual(self.save(reading, n, self.words(reading, n), room), (0, 0, 0))
                 for room in (needed - 1, 9, 0):
-                    self.assertEqual(self.save(reading, n, self.words(n), room), (4, 0, 0))
+                    self.assertEqual(self.save(reading, n, self.words(reading, n), room), (4, 0, 0))
 
     def test_sheets_that_no_table_takes(self) -> None:
         """NaN, wrong signs and trapped stages are saved."""
@@ -605,26 +632,26 @@ class SaveTest(HostTest):
 
     def test_refusals(self) -> None:
         """1, 2 and 3, each before the next, also where n × n would not fit a word."""
-        for reading in (0, 3, 2 ** 63, 2 ** 64 - 1):
+        for reading in (0, 4, 2 ** 63, 2 ** 64 - 1):
             self.assertEqual(self.save(reading, 0, [], 0), (1, 0, 0))
-        for n in (0, 33, 2 ** 32, 2 ** 63, 2 ** 64 - 1):
-            self.assertEqual(self.save(2, n, [], 0), (2, 0, 0))
-            self.assertEqual(self.save(1, n, [1] * 1089, 9000), (2, 0, 0))
-        for n in (1, 2, 32):
-            for words in ([], self.words(n)[:-1], self.words(n) + [0]):
-                self.assertEqual(self.save(1, n, words, 0), (3, 0, 0))
+        for n, reading in itertools.product((0, 33, 2 ** 32, 2 ** 63, 2 ** 64 - 1), READINGS):
+            self.assertEqual(self.save(reading, n, [], 0), (2, 0, 0))
+            self.assertEqual(self.save(reading, n, [1] * 1122, 9100), (2, 0, 0))
+        for n, reading in itertools.product((1, 2, 32), READINGS):
+            words = self.words(reading, n)
+            for wrong in ([], words[:-1], words + [0]):
+                self.assertEqual(self.save(reading, n, wrong, 0), (3, 0, 0))
 
 
 class MoveTest(HostTest):
     """Moving to another time unit."""
 
     def test_documents(self) -> None:
-        """The cases of the documents, in both readings: 16 is decided by the exact product, before any rounding."""
-        for reading in (1, 2):
-            self.assertEqual(self.move(reading, 1, [2.0 ** -510], -512), (0, 0, 0))
-            self.assertEqual(self.move(reading, 1, [2.0 ** -511], -512), (16, 0, 0))
-            self.assertEqual(self.move(reading, 1, [(2 - 2.0 ** -52) * 2.0 ** -511], -512), (16, 0, 0))
-            self.assertEqual(self.move(reading, 2, [1.0, -1.0, 0.0, 3.0], -10), (0, 0, 0))
+        """The cases of the documents, in each reading: 16 is decided by the exact product, before any rounding."""
+        for reading in READINGS:
+            for number, expected in ((2.0 ** -510, 0), (2.0 ** -511, 16), ((2 - 2.0 ** -52) * 2.0 ** -511, 16)):
+                self.assertEqual(self.move(reading, 1, in_reading(reading, [number]), -512), (expected, 0, 0))
+            self.assertEqual(self.move(reading, 2, in_reading(reading, [1.0, -1.0, 0.0, 3.0]), -10), (0, 0, 0))
 
     def test_known_sheets(self) -> None:
         """Sheets that are refused with 9 or 10, or accepted, by the table are moved; 6 to 8 are refused as there."""
@@ -645,9 +672,10 @@ class MoveTest(HostTest):
 
     def test_range_of_k(self) -> None:
         """k at its ends and past them, also by far, and where its lower half alone would be in range."""
-        for reading in (1, 2):
+        for reading in READINGS:
             for n in (1, 3, 32):
                 sheet = [1.5 if p % (n + 1) == 0 else -0.75 for p in range(n * n)]
+                sheet += [2.0 ** (-1022 + 65 * j) for j in range(n)] if reading == 3 else []
                 for k in (-512, -511, -1, 0, 1, 511, 512):
                     self.assertEqual(self.move(reading, n, sheet, k), (0, 0, 0))
                 for k in POWERS_OUT_OF_RANGE:
@@ -666,22 +694,23 @@ class MoveTest(HostTest):
         low, high = bits_of(SMALLEST), bits_of(LARGEST)
         for k in range(-512, 513, 2):
             within, past = (low - (k << 52), -1) if k < 0 else (high - (k << 52), 1)
-            reading, n = self.rng.choice([1, 2]), self.rng.choice([1, 2, 5])
+            reading, n = self.rng.choice(READINGS), self.rng.choice([1, 2, 3])
             place = self.rng.randrange(n * n)
             for word, expected in ((within, 0), (within + past, 16 if k else 6)):
                 sheet = [1.0 if p % (n + 1) == 0 else reference.random_zero(self.rng) for p in range(n * n)]
                 sheet[place] = number_of(word) if place % (n + 1) == 0 else -number_of(word)
-                self.assertEqual(self.move(reading, n, sheet, k, n * n + 1)[0], expected)
+                sheet = in_reading(reading, sheet)
+                self.assertEqual(self.move(reading, n, sheet, k, len(sheet) + 1)[0], expected)
 
     def test_random_sheets(self) -> None:
         """Sheets of every size about any power of two, moved, and back again with their bits."""
         answers = []
         for n in [*range(1, 33), *[1, 2, 3, 4, 5, 6, 7] * 20]:
-            for reading in (1, 2):
+            for reading in READINGS:
                 sheet = reference.sheet_to_move(self.rng, reading, n)
-                k = reference.random_power(self.rng, sheet)
-                answers.append(self.move(reading, n, sheet, k, n * n + n))
-                moved = reference.move(reading, n, reference.IN_SECONDS, sheet, k, n * n)
+                k = reference.random_power(self.rng, n, sheet)
+                answers.append(self.move(reading, n, sheet, k, len(sheet) + n))
+                moved = reference.move(reading, n, reference.IN_SECONDS, sheet, k, len(sheet))
                 if isinstance(moved, Moved):
                     self.assertEqual(self.move(reading, n, moved.numbers, -k), (0, 0, 0))
         self.assertEqual(set(answers), {(0, 0, 0), (16, 0, 0)})
@@ -690,7 +719,7 @@ class MoveTest(HostTest):
     def test_lengths(self) -> None:
         """Sheets and areas that are too short, right, too long or empty; later places stay as they are."""
         for sheet in random_sheets(self.rng, [1, 2, 5, 32], 3):
-            needed = sheet.n * sheet.n
+            needed = len(sheet.numbers)
             for room in (needed, needed + 1, needed + 50, PLACES + 7):
                 self.assertEqual(self.move(*sheet, -10, room), (0, 0, 0))
             for room in (0, sheet.n - 1, needed - 1):
@@ -701,23 +730,24 @@ class MoveTest(HostTest):
     def test_order(self) -> None:
         """Each question before the next, where both are answered no."""
         tiny = 2.0 ** -1074
-        for reading in (0, 3, 2 ** 63, 2 ** 64 - 1):
+        for reading in (0, 4, 2 ** 63, 2 ** 64 - 1):
             self.assertEqual(self.move(reading, 0, [], 600, 0), (1, 0, 0))
             self.assertEqual(self.move(reading, 1, [1.0], 1), (1, 0, 0))
-        for reading in (1, 2):
+        for reading in READINGS:
             for n in (0, 33, 2 ** 32, 2 ** 63, 2 ** 64 - 1):
                 self.assertEqual(self.move(reading, n, [NAN], 600, 0), (2, 0, 0))
                 self.assertEqual(self.move(reading, n, [], 1, 5), (2, 0, 0))
-            self.assertEqual(self.move(reading, 33, [1.0] * 1089, 1), (2, 0, 0))
-            self.assertEqual(self.move(reading, 2, [NAN] * 3, 600, 0), (3, 0, 0))
-            self.assertEqual(self.move(reading, 2, [NAN] * 4, 600, 3), (4, 0, 0))
+            needed = sheet_length(reading, 2)
+            self.assertEqual(self.move(reading, 33, [1.0] * sheet_length(reading, 33), 1), (2, 0, 0))
+            self.assertEqual(self.move(reading, 2, [NAN] * (needed - 1), 600, 0), (3, 0, 0))
+            self.assertEqual(self.move(reading, 2, [NAN] * needed, 600, needed - 1), (4, 0, 0))
             for sheet, k, expected in [
                     ([5.0, 1.0, NAN, 1.0], 600, (6, 2, 1)), ([1.0, -tiny, 1.0, 1.0], 600, (7, 2, 1)),
                     ([1.0, -tiny, 0.0, 1.0], 600, (8, 1, 2)), ([1.0, -tiny, 0.0, LARGEST], 1, (8, 1, 2)),
                     ([1.0, 0.0, 0.0, LARGEST], 513, (15, 0, 0)), ([1.0, -SMALLEST, 0.0, 1.0], -513, (15, 0, 0)),
                     ([1.0, 0.0, -LARGEST, 1.0], 1, (16, 0, 0))]:
-                self.assertEqual(self.move(reading, 2, sheet, k), expected)
-                self.assertEqual(self.move(reading, 2, sheet, k, 9), expected)
+                self.assertEqual(self.move(reading, 2, in_reading(reading, sheet), k), expected)
+                self.assertEqual(self.move(reading, 2, in_reading(reading, sheet), k, 9), expected)
 
     def test_one_bad_number(self) -> None:
         """A random sheet with one number spoilt, anywhere, by k in its range and out of it."""
@@ -736,14 +766,14 @@ class MoveTest(HostTest):
     def test_laws(self) -> None:
         """A moved sheet has the sheet's numbers divided by the power, and two moves are one; that one sheet is accepted
         does not say that the other is: E moved by 1 is F."""
-        for reading in (1, 2):
-            self.assertEqual(self.table(reading, 1, [2.0 ** 1021]), (0, 0, 0))
-            self.assertEqual(self.move(reading, 1, [2.0 ** 1021], 1), (0, 0, 0))
+        for reading in READINGS:
+            self.assertEqual(self.table(reading, 1, in_reading(reading, [2.0 ** 1021])), (0, 0, 0))
+            self.assertEqual(self.move(reading, 1, in_reading(reading, [2.0 ** 1021]), 1), (0, 0, 0))
             self.assertEqual(self.calls.left[0], bits_of(2.0 ** 1022))
-            self.assertEqual(self.table(reading, 1, [2.0 ** 1022]), (10, 0, 0))
+            self.assertEqual(self.table(reading, 1, in_reading(reading, [2.0 ** 1022])), (10, 0, 0))
         for law, cases in LAWS.values():
             seen: Counter[str] = Counter()
-            for _ in range(600):
+            for _ in range(1200):
                 law(self.calls, self.rng, seen)
             self.assertLessEqual(cases, set(seen))
 
@@ -767,6 +797,7 @@ class UnitTest(HostTest):
                         self.assertEqual(self.move(1, 2, sheet, k, room, e), (12, 0, 0))
                 self.assertEqual(self.entry(2, 2, sheet, 0, 3, e), (12, 0, 0))
                 self.assertEqual(self.entry(1, 2, sheet, 1, 1, e), (12, 0, 0))
+                self.assertEqual(self.table(3, 2, sheet, 60, e), (12, 0, 0))
             for n in (0, 33, 2 ** 63):
                 self.assertEqual(self.table(1, n, nans, 0, e), (2, 0, 0))
                 self.assertEqual(self.column(1, n, nans, 0, 0, e), (2, 0, 0))
@@ -775,6 +806,7 @@ class UnitTest(HostTest):
                 self.assertEqual(self.save(1, n, [], 0, e), (2, 0, 0))
                 self.assertEqual(self.move(1, n, nans, 600, 0, e), (2, 0, 0))
             self.assertEqual(self.column(2, 2, self.P, 1, 2, e), (1, 0, 0))
+            self.assertEqual(self.column(3, 2, W_SHEET, 1, 2, e), (1, 0, 0))
 
     def test_every_unit(self) -> None:
         """Every e from -514 to 514 in each call and in a file."""
@@ -787,12 +819,15 @@ class UnitTest(HostTest):
             self.assertEqual(self.prices(1, 2, self.P, [1.0, 2.0], 3, e), expected)
             self.assertEqual(self.save(1, 2, words, 61, e), expected)
             self.assertEqual(self.move(1, 2, self.P, 0, 5, e), expected)
-            self.assertEqual(self.file(file_of(Sheet(1, 2, self.P), e), 5), expected)
-            self.report(file_of(Sheet(1, 2, self.P), e))
+            for sheet in (Sheet(1, 2, self.P), Sheet(3, 2, W_SHEET)):
+                self.assertEqual(self.file(file_of(sheet, e), 7), expected)
+                self.report(file_of(sheet, e))
+            self.assertEqual(self.table(3, 2, W_SHEET, 5, e), expected)
+            self.assertEqual(self.move(3, 2, W_SHEET, 0, 7, e), expected)
 
     def test_heads(self) -> None:
         """Heads of every length up to 9, and every 17th word in the place of e."""
-        rows = reference.make_rows(1, [bits_of(4.0)])
+        rows = reference.make_records(1, 1, [bits_of(4.0)])
         accepted = [length for length in range(10)
                     if self.file(reference.record(1, b"\1\0\1\0\0\0\0\0\0"[:length]) + rows, 1) == (0, 0, 0)]
         self.assertEqual(accepted, [4, 6])
@@ -804,7 +839,7 @@ class UnitTest(HostTest):
         """A file that says its unit is saved as its bytes; one that does not, with e = 0 in its head."""
         for data in good_files(self.rng):
             loaded = reference.load(data, PLACES)
-            size = reference.file_length(loaded.n)
+            size = reference.file_length(loaded.reading, loaded.n)
             with_unit = data if len(data) == size else struct.pack("<I", 6) + data[4:10] + b"\0\0" + data[10:]
             saved = reference.save(loaded.reading, loaded.n, loaded.e, loaded.words, size)
             self.assertEqual(saved, Saved(with_unit))
@@ -815,14 +850,14 @@ class UnitTest(HostTest):
         for e in range(-512, 513, 3):
             for k, expected in [(-512 - e, 0), (512 - e, 0), (-513 - e, 17), (513 - e, 17)]:
                 if abs(k) <= 512:
-                    reading, n = self.rng.choice([1, 2]), self.rng.choice([1, 2, 4])
-                    sheet = [1.0 if p % (n + 1) == 0 else -1.5 for p in range(n * n)]
-                    self.assertEqual(self.move(reading, n, sheet, k, n * n + 1, e), (expected, 0, 0))
+                    reading, n = self.rng.choice(READINGS), self.rng.choice([1, 2, 3])
+                    sheet = in_reading(reading, [1.0 if p % (n + 1) == 0 else -1.5 for p in range(n * n)])
+                    self.assertEqual(self.move(reading, n, sheet, k, len(sheet) + 1, e), (expected, 0, 0))
 
     def test_order_of_moving(self) -> None:
         """8 before 15, 15 before 17, 17 before 16."""
         tiny = 2.0 ** -1074
-        for reading in (1, 2):
+        for reading in READINGS:
             for sheet, e, k, expected in [
                     ([1.0, -tiny, 0.0, 1.0], 512, 1, (8, 1, 2)), ([1.0, 0.0, 0.0, LARGEST], 512, 513, (15, 0, 0)),
                     ([1.0, -SMALLEST, 0.0, 1.0], -512, -513, (15, 0, 0)),
@@ -830,7 +865,118 @@ class UnitTest(HostTest):
                     ([1.0, 0.0, 0.0, 1.0], 512, 2 ** 63 - 1, (15, 0, 0)),
                     ([1.0, 0.0, 0.0, LARGEST], 512, 1, (17, 0, 0)), ([1.0, -SMALLEST, 0.0, 1.0], -512, -1, (17, 0, 0)),
                     ([1.0, 0.0, 0.0, LARGEST], 511, 1, (16, 0, 0)), ([1.0, -SMALLEST, 0.0, 1.0], -511, -1, (16, 0, 0))]:
-                self.assertEqual(self.move(reading, 2, sheet, k, 4, e), expected)
+                self.assertEqual(self.move(reading, 2, in_reading(reading, sheet), k, 6, e), expected)
+
+
+class WeightTest(HostTest):
+    """Sheets with weights."""
+
+    def every_call(self, n: int, sheet: Sequence[float]) -> Told:
+        """The table of a sheet with weights, every entry and prices, which are answered alike; the column is 1."""
+        answer = self.sheet(WEIGHTS, n, sheet)
+        self.assertEqual(self.prices(WEIGHTS, n, sheet, [0.0] * n), answer)
+        self.assertEqual(self.column(WEIGHTS, n, sheet, n), (1, 0, 0))
+        for i, j in itertools.product(range(1, n + 1), repeat=2) if n < 5 else ():
+            self.assertEqual(self.entry(WEIGHTS, n, sheet, i, j), answer)
+        self.report(file_of(Sheet(WEIGHTS, n, list(sheet))))
+        return answer
+
+    def test_documents(self) -> None:
+        """W, whose table and prices are found by hand, with their allowances; a product with a weight of 1 is a
+        step."""
+        self.assertEqual(self.every_call(2, W_SHEET), (0, 0, 0))
+        self.assertEqual(self.table(WEIGHTS, 2, W_SHEET), (0, 0, 0))
+        self.assertEqual(self.calls.left, (*(bits_of(x) for x in W_TABLE), 48))
+        self.assertEqual(self.prices(WEIGHTS, 2, W_SHEET, [1.0, 2.0]), (0, 0, 0))
+        self.assertEqual(self.calls.left, (bits_of(0.8125), bits_of(2.25), 50))
+        self.assertEqual(self.table(WEIGHTS, 1, [2.0, 0.5]), (0, 0, 0))
+        self.assertEqual(self.calls.left, (bits_of(0.25), 6))
+        small = [1.0, -SMALLEST, 0.0, 2.0 ** -10]
+        self.assertEqual(self.table(1, 2, small), (0, 0, 0))
+        self.assertEqual(self.every_call(2, small + [1.0, 1.0]), (10, 0, 0))
+
+    def test_bad_weights(self) -> None:
+        """A weight spoilt in any place is told at row n + 1, in every call that looks at numbers."""
+        for n in (1, 2, 5, 32):
+            sheet = reference.random_sheet(self.rng, WEIGHTS, n, reference.random_style(self.rng, 3))
+            for j in range(1, n + 1):
+                for bad, number in [(NAN, 6), (INF, 6), (-INF, 6), (0.0, 7), (-0.0, 7), (-1.0, 7), (2.0 ** -1074, 8),
+                                    (number_of(bits_of(SMALLEST) - 1), 8), (number_of(0x7ff0000000000001), 6)]:
+                    spoilt = list(sheet)
+                    spoilt[n * n + j - 1] = bad
+                    self.assertEqual(self.table(WEIGHTS, n, spoilt), (number, n + 1, j))
+                    self.assertEqual(self.move(WEIGHTS, n, spoilt, 1), (number, n + 1, j))
+                self.assertEqual(self.every_call(n, spoilt), (number, n + 1, j))
+
+    def test_order(self) -> None:
+        """Each of 6 to 8 is asked of the weights too before the next; of two bad weights the first is told."""
+        tiny = 2.0 ** -1074
+        for sheet, expected in [
+                ([0.0, NAN], (6, 2, 1)), ([2.0, 0.0], (7, 2, 1)), ([0.0, 0.0], (7, 1, 1)),
+                ([1.0, 1.0, 0.0, 1.0, 0.0, INF], (6, 3, 2)), ([1.0, -tiny, 0.0, 1.0, 1.0, 0.0], (7, 3, 2)),
+                ([1.0, -1.0, 0.0, tiny, tiny, 1.0], (8, 2, 2)), ([1.0, -1.0, 0.0, 1.0, tiny, -1.0], (7, 3, 2)),
+                ([1.0, -LARGEST, 0.0, 2.0 ** 1022, tiny, tiny], (8, 3, 1)),
+                ([1.0, 0.0, 0.0, 0.0, 1.0, 1.0], (7, 2, 2))]:
+            n = 1 if len(sheet) == 2 else 2
+            self.assertEqual(self.every_call(n, sheet), expected)
+            self.assertEqual(self.move(WEIGHTS, n, sheet, 600), expected)
+
+    def test_lengths(self) -> None:
+        """A sheet without its weights, or with some of them; a table needs no room for them, a moved sheet does."""
+        for n in (1, 2, 5, 32):
+            sheet = reference.random_sheet(self.rng, WEIGHTS, n, reference.random_style(self.rng, 3))
+            for wrong in (sheet[:n * n], sheet[:-1], sheet + [1.0]):
+                self.assertEqual(self.sheet(WEIGHTS, n, wrong), (3, 0, 0))
+                self.assertEqual(self.prices(WEIGHTS, n, wrong, [0.0] * n), (3, 0, 0))
+                self.assertEqual(self.move(WEIGHTS, n, wrong, 1), (3, 0, 0))
+            for reading in (1, 2):
+                self.assertEqual(self.table(reading, n, sheet), (3, 0, 0))
+            self.assertEqual(self.table(WEIGHTS, n, sheet, n * n), (0, 0, 0))
+            self.assertEqual(self.table(WEIGHTS, n, sheet, n * n - 1), (4, 0, 0))
+            for room in (n * n, n * n + n - 1):
+                self.assertEqual(self.move(WEIGHTS, n, sheet, 1, room), (4, 0, 0))
+
+    def test_steps_out_of_range(self) -> None:
+        """Each step that weights add, beside a sheet in which it is in range."""
+        tiny, huge = 2.0 ** -600, 2.0 ** 600
+        for within, past in [
+                ([1.0, -2 * SMALLEST, 0.0, 2.0 ** -10, 1.0, 1.0], [1.0, -SMALLEST, 0.0, 2.0 ** -10, 1.0, 1.0]),
+                ([1.0, -1.0, 0.0, huge, 1.0, huge], [1.0, -huge, 0.0, huge, 1.0, huge]),
+                ([LARGEST / 2, -LARGEST / 4, 0.0, 1.0, huge, 1.0], [LARGEST, -LARGEST, 0.0, 1.0, huge, 1.0]),
+                ([2.0 ** -511, 2.0 ** 510], [2.0 ** -511, 2.0 ** 511]), ([huge, 1.0], [huge, tiny]),
+                ([2.0 ** 1021, 1.0], [2.0 ** 1021, 0.5])]:
+            n = 1 if len(within) == 2 else 2
+            self.assertEqual(self.every_call(n, within), (0, 0, 0), within)
+            self.assertEqual(self.every_call(n, past), (10, 0, 0), past)
+
+    def test_edge_of_the_range(self) -> None:
+        """Pairs of sheets that differ by one last place of a weight, of which one is accepted and the other is 10."""
+        found = 0
+        for n in [1, 2, 3, 4] * 20:
+            sheet = reference.random_sheet(self.rng, WEIGHTS, n, reference.random_style(self.rng))
+            pair = reference.edge_pair(self.rng, WEIGHTS, n, sheet)
+            if pair is not None and pair[0][:n * n] == pair[1][:n * n]:
+                found += 1
+                self.assertEqual([self.every_call(n, numbers) for numbers in pair], [(0, 0, 0), (10, 0, 0)])
+        self.assertGreater(found, 10)
+
+    def test_moved_weights(self) -> None:
+        """Weights keep their bits whatever k is, at both ends of their range too."""
+        for k in (-512, -1, 0, 10, 512):
+            for weights in ([1.0, 2.0], [LARGEST, SMALLEST], [0.1, 2.0 ** 1023]):
+                self.assertEqual(self.move(WEIGHTS, 2, [2.0, -1.0, -0.0, 1.5, *weights], k, 9, 0), (0, 0, 0))
+                self.assertEqual(self.calls.left[4:6], tuple(bits_of(x) for x in weights))
+
+    def test_files(self) -> None:
+        """A file with weights is saved as its bytes, with either head; NaN patterns among the weights are kept as
+        words."""
+        for n in (1, 2, 7, 32):
+            words = [self.rng.choice([self.rng.getrandbits(64), 0x7ff0000000000001]) for _ in range(n * n + n)]
+            data = reference.make_file_words(WEIGHTS, n, -10, words)
+            self.assertEqual(self.file(data, n * n + n), (0, 0, 0))
+            self.assertEqual(self.file(reference.make_short_file_words(WEIGHTS, n, words), n * n + n), (0, 0, 0))
+            self.assertEqual(self.save(WEIGHTS, n, words, len(data), -10), (0, 0, 0))
+            self.assertEqual(reference.save(WEIGHTS, n, -10, words, len(data)), Saved(data))
 
 
 class ReportTest(HostTest):
@@ -904,7 +1050,7 @@ class LinkTest(HostTest):
         """The header's sizes are the documents'."""
         constants = dict(re.findall(r"#define YULANBOWLS_(\w+) \(?(-?\d+)\)?$", HEADER.read_text(), re.MULTILINE))
         self.assertEqual({name: int(value) for name, value in constants.items()},
-                         {"STAGES": reference.LIMIT, "NUMBERS": reference.LIMIT ** 2,
+                         {"STAGES": reference.LIMIT, "NUMBERS": reference.LIMIT ** 2, "SHEET_NUMBERS": PLACES,
                           "UNIT_LEAST": -reference.FURTHEST_POWER, "UNIT_MOST": reference.FURTHEST_POWER,
                           "FILE_BYTES": reference.LONGEST_FILE, "TEXT_BYTES": TEXT_BYTES})
 

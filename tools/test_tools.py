@@ -10,6 +10,7 @@ commands are run again.
 from __future__ import annotations
 
 import io
+import itertools
 import os
 import pty
 import random
@@ -20,6 +21,7 @@ import subprocess
 import sys
 import tempfile
 import unittest
+from collections import Counter
 from fractions import Fraction
 from pathlib import Path
 from typing import Callable, NamedTuple, Sequence
@@ -28,8 +30,9 @@ ROOT = Path(__file__).resolve().parent.parent
 SHEET = [sys.executable, str(ROOT / "tools" / "sheet.py")]
 REFERENCE = [sys.executable, str(ROOT / "tools" / "reference.py"), "dwell"]
 DWELL = shlex.split(os.environ["DWELL"]) if "DWELL" in os.environ else REFERENCE
-READING_WORDS = {1: "leaving-rates", 2: "margins"}
-DIAGONAL_WORDS = {1: "leaves", 2: "margin"}
+READING_WORDS = {1: "leaving-rates", 2: "margins", 3: "weights"}
+DIAGONAL_WORDS = {1: "leaves", 2: "margin", 3: "sum"}
+ALLOWANCES = {1: 4, 2: 12, 3: 6}    # over n³
 
 START_FOLDER = os.getcwd()
 
@@ -147,13 +150,14 @@ class ToolTest(unittest.TestCase):
 # ==== Sheets, files and exact values, apart from the tools ====
 
 class Typed(NamedTuple):
-    """A sheet as it is typed: names, rates by pair of stages, leaving rates or margins by stage, and the words for its
-    unit, none where it is not said."""
+    """A sheet as it is typed: names, rates by pair of stages, leaving rates, margins or weighted row sums by stage,
+    the words for its unit, none where it is not said, and weights, for each stage or for none."""
     reading: int
     names: list[str]
     rates: dict[tuple[int, int], str]
     diagonal: dict[int, str]
     unit: str = ""
+    weights: Sequence[str] = ()
 
 
 def value(text: str) -> Fraction:
@@ -181,13 +185,14 @@ def packed(reading: int, n: int, words: Sequence[int], e: int = 0) -> bytes:
 
 
 def packed_short(reading: int, n: int, words: Sequence[int]) -> bytes:
-    """A sheet file by document 01 alone, which says no unit."""
+    """A sheet file with document 01's head, which says no unit."""
     return struct.pack("<IHHH", 4, 1, reading, n) + packed_rows(n, words)
 
 
 def packed_rows(n: int, words: Sequence[int]) -> bytes:
-    """The rows of a sheet file."""
-    return b"".join(struct.pack(f"<IHH{n}Q", 2 + 8 * n, 2, i + 1, *words[i * n:(i + 1) * n]) for i in range(n))
+    """The rows of a sheet file, and a record of weights where n words follow those of the rows."""
+    rows = [struct.pack(f"<IHH{n}Q", 2 + 8 * n, 2, i + 1, *words[i * n:(i + 1) * n]) for i in range(n)]
+    return b"".join(rows) + (struct.pack(f"<IH{n}Q", 8 * n, 3, *words[n * n:]) if len(words) > n * n else b"")
 
 
 def power_of(unit: str) -> int:
@@ -204,6 +209,7 @@ def expected_file(typed: Typed) -> bytes:
         words[i * n + j] = nearest(-value(text)) if value(text) else 0
     for i, text in typed.diagonal.items():
         words[i * n + i] = nearest(value(text))
+    words += [nearest(value(text)) for text in typed.weights]
     return packed(typed.reading, n, words, power_of(typed.unit))
 
 
@@ -220,6 +226,7 @@ def as_lines(typed: Typed) -> str:
     lines += [f"unit {typed.unit}"] if typed.unit else []
     lines += [f"{names[i]} -> {names[j]} {text}" for (i, j), text in typed.rates.items()]
     lines += [f"{names[i]} {DIAGONAL_WORDS[typed.reading]} {text}" for i, text in typed.diagonal.items()]
+    lines += [f"{name} weight {text}" for name, text in zip(names, typed.weights)]
     return "\n".join(lines) + "\n"
 
 
@@ -228,9 +235,10 @@ def as_matrix(typed: Typed, separator: str) -> str:
     n = len(typed.names)
     names = [f'"{name}"' if separator in name else name for name in typed.names]
     rows = [["unit", typed.unit]] if typed.unit else []
-    rows.append(["from / to", *names, DIAGONAL_WORDS[typed.reading]])
+    rows.append(["from / to", *names, DIAGONAL_WORDS[typed.reading], *(["weight"] if typed.weights else [])])
     for i, name in enumerate(names):
-        rows.append([name, *(typed.rates.get((i, j), "") for j in range(n)), typed.diagonal.get(i, "")])
+        rows.append([name, *(typed.rates.get((i, j), "") for j in range(n)), typed.diagonal.get(i, ""),
+                     *typed.weights[i:i + 1]])
     return "".join(separator.join(row) + "\n" for row in rows)
 
 
@@ -258,30 +266,33 @@ def random_typed(rng: random.Random, reading: int, n: int,
                  text: Callable[[random.Random], str] = random_text) -> Typed:
     """A sheet with some rates of each stage; a leaving rate may be missing, and so may the unit."""
     names = rng.sample(["intake", "key ceremony", "Sign", "x-1", "größe", "leaves", "stage", "a, b", "c;d", "#7",
-                        "p->q", "reading", "margin", "unit", "100", "-", *(f"stage {k}" for k in range(40))], n)
+                        "p->q", "reading", "margin", "unit", "100", "-", "sum", "weight",
+                        *(f"stage {k}" for k in range(40))], n)
     share = rng.choice([0.1, 0.5, 1.0])
     rates = {(i, j): text(rng) for i in range(n) for j in range(n) if i != j and rng.random() < share}
-    diagonal = {i: text(rng) for i in range(n) if reading == 2 or rng.random() < 0.6}
-    return Typed(reading, names, rates, diagonal, random_unit(rng))
+    diagonal = {i: text(rng) for i in range(n) if reading != 1 or rng.random() < 0.6}
+    weights = [text(rng) for _ in range(n)] if reading == 3 else ()
+    return Typed(reading, names, rates, diagonal, random_unit(rng), weights)
 
 
 def exact_matrix(typed: Typed, exact_of: Callable[[str], Fraction] = value) -> Exact:
-    """The matrix A that the typed numbers stand for (01, "The sheet and its two readings")."""
+    """The matrix A that the typed numbers stand for (01, "The sheet and its two readings"; 02, U10)."""
     n = len(typed.names)
     t = [[exact_of(typed.rates.get((i, j), "0")) for j in range(n)] for i in range(n)]
+    z = [exact_of(text) for text in typed.weights or ["1"] * n]
     a: list[Fraction] = []
     share: list[Fraction] = []
     for i in range(n):
-        weight = [share[j] if typed.reading == 2 and j < i else Fraction(1) for j in range(n)]
-        h = sum((t[i][j] * weight[j] for j in range(n)), Fraction(0))
-        a.append(exact_of(typed.diagonal.get(i, "0")) + h)
+        counted = [share[j] if typed.reading == 2 and j < i else z[j] for j in range(n)]
+        h = sum((t[i][j] * counted[j] for j in range(n)), Fraction(0))
+        a.append((exact_of(typed.diagonal.get(i, "0")) + h) / z[i])
         share.append(h / a[i] if a[i] else Fraction(0))
     return [[a[i] if i == j else -t[i][j] for j in range(n)] for i in range(n)]
 
 
 def live_stages(typed: Typed) -> list[int]:
     """The stages that are not idle: with leaving rates those that some number is typed for and is not zero."""
-    if typed.reading == 2:
+    if typed.reading != 1:
         return list(range(len(typed.names)))
     moving = {i for pair, text in typed.rates.items() if value(text) for i in pair}
     return sorted(moving | {i for i, text in typed.diagonal.items() if value(text)})
@@ -406,15 +417,16 @@ class Make(ToolTest):
         """Random sheets of every size as lines: each number is the nearest to what was typed."""
         rng = random.Random(1)
         for n in range(1, 33):
-            typed = random_typed(rng, rng.choice([1, 2]), n)
-            self.assertEqual(self.make(as_lines(typed)), expected_file(typed), as_lines(typed))
+            for reading in (1, 2, 3):
+                typed = random_typed(rng, reading, n)
+                self.assertEqual(self.make(as_lines(typed)), expected_file(typed), as_lines(typed))
 
     def test_matrix(self) -> None:
         """Random sheets as matrices with each separator."""
         rng = random.Random(2)
-        for n in (1, 2, 3, 8, 32):
+        for n, reading in itertools.product((1, 2, 3, 8, 32), (1, 2, 3)):
             for separator in ",;\t":
-                typed = random_typed(rng, rng.choice([1, 2]), n)
+                typed = random_typed(rng, reading, n)
                 typed = typed._replace(names=[name.replace("#", "") for name in typed.names])
                 text = as_matrix(typed, separator)
                 self.assertEqual(self.make(text), expected_file(typed), text)
@@ -484,7 +496,11 @@ class Make(ToolTest):
 
 START = "reading leaving-rates\nstages a b\n"
 MARGINS = "reading margins\nstages a b\n"
+WEIGHTS = "reading weights\nstages a b\n"
 MATRIX = "from,a,b,leaves\n"
+WEIGHT_MATRIX = "from,a,b,sum,weight\n"
+THE_READING = "the reading is 'leaving-rates', 'margins' or 'weights'"
+LAST_CELLS = "'leaves', 'margin' or the two cells 'sum' and 'weight' at its end"
 ERRORS: list[tuple[str, int, str]] = [
     # the text, the line of the error, and words of its message
     ("", 1, "the text is empty"),
@@ -494,9 +510,7 @@ ERRORS: list[tuple[str, int, str]] = [
     ("stages a b\nreading margins\n", 1, "a text begins with 'reading"),
     ("stages a, b\n", 1, "a text begins with 'reading"),
     ("\n# x\na leaves 1\n", 3, "a text begins with 'reading"),
-    ("reading rates\n", 1, "the reading is 'leaving-rates' or 'margins'"),
-    ("reading\n", 1, "the reading is 'leaving-rates' or 'margins'"),
-    ("reading margins please\n", 1, "the reading is 'leaving-rates' or 'margins'"),
+    *((f"reading{words}\n", 1, THE_READING) for words in ("", " rates", " margins please", " weight", " Weights")),
     (START + "reading margins\n", 3, "the reading is given twice"),
     ("reading margins\n\n# nothing\n", 4, "no stage is named"),
     (START + "\na -> c 1\n", 4, "unknown stage 'c'"),
@@ -533,11 +547,33 @@ ERRORS: list[tuple[str, int, str]] = [
     (MARGINS + "a margin 1\n", 2, "stage 'b' has no margin"),
     (MARGINS + "a margin 1\nb leaves 1\n", 4, "this text has margins, not leaving rates"),
     (START + "a margin 1\n", 3, "this text has leaving rates, not margins"),
+    (START + "a sum 1\n", 3, "this text has leaving rates, not weighted row sums"),
+    (MARGINS + "a weight 1\n", 3, "this text has margins, not weights"),
+    (WEIGHTS + "a leaves 1\n", 3, "this text has weights, not leaving rates"),
+    (WEIGHTS + "a sum 1\na margin 1\n", 4, "this text has weights, not margins"),
+    (WEIGHTS + "c weight 1\n", 3, "unknown stage 'c'"),
+    (WEIGHTS + "a sum 1\na sum 1\n", 4, "the weighted row sum of 'a' is given twice (first on line 3)"),
+    (WEIGHTS + "a weight 1\nb sum 1\na weight 2\n", 5, "the weight of 'a' is given twice (first on line 3)"),
+    (WEIGHTS + "a sum 0\n", 3, "the weighted row sum of 'a' is zero (weighted row sums are positive)"),
+    (WEIGHTS + "a sum 1\na weight -0.0\n", 4, "the weight of 'a' is zero (weights are positive)"),
+    (WEIGHTS + "a sum -1\n", 3, "'-1' is negative (weighted row sums are positive)"),
+    (WEIGHTS + "a weight -0x1p3\n", 3, "'-0x1p3' is negative (weights are positive)"),
+    (WEIGHTS + "a -> b -1\n", 3, "'-1' is negative (rates are typed as positive numbers)"),
+    (WEIGHTS + "a weight heavy\n", 3, "'heavy' is not a number"),
+    (WEIGHTS + "a weight 1e309\n", 3, "'1e309' is too large"),
+    (WEIGHTS + "a weight 1e-309\n", 3, "'1e-309' is too small"),
+    (WEIGHTS, 2, "stage 'a' has no weighted row sum"),
+    (WEIGHTS + "a sum 1\nb sum 1\nb weight 1\n", 2, "stage 'a' has no weight"),
+    (WEIGHTS + "a sum 1\na weight 1\nb weight 1\n", 2, "stage 'b' has no weighted row sum"),
+    ("reading weights\nstage a\n\nstage b\na sum 1\na weight 1\nb sum 1\n", 4, "stage 'b' has no weight"),
+    (WEIGHTS + "a sum 1 weight 2\n", 3, "write 'FROM -> TO RATE', 'NAME sum NUMBER' or 'NAME weight NUMBER' (quote"),
+    (WEIGHTS + "a sum 0,5\n", 3, "numbers have a decimal point"),
+    (MARGINS + "a b 1\n", 3, "write 'FROM -> TO RATE' or 'NAME margin NUMBER' (quote a name with spaces"),
     ("reading margins\nstages " + " ".join(f"s{k}" for k in range(20)) + "\n\nstages "
      + " ".join(f"t{k}" for k in range(13)) + "\n", 4, "stage 't12' is one too many: a sheet has at most 32 stages"),
     (START + "a -> b\n", 3, "write 'FROM -> TO RATE'"),
     (START + "a -> b 1 2\n", 3, "write 'FROM -> TO RATE'"),
-    (START + "a b 1\n", 3, "write 'FROM -> TO RATE'"),
+    (START + "a b 1\n", 3, "write 'FROM -> TO RATE' or 'NAME leaves NUMBER' (quote a name with spaces"),
     (START + "a -> b 0,5\n", 3, "numbers have a decimal point"),
     (START + "a leaves 0,5\n", 3, "numbers have a decimal point"),
     (START + "speed 5\n", 3, "write 'FROM -> TO RATE'"),
@@ -564,9 +600,20 @@ ERRORS: list[tuple[str, int, str]] = [
     (START + "a\t0\t1\t2\n", 3, "a row of a matrix stands among lines"),
     (MATRIX + "a,,1,\na -> b 1\n", 3, "a line of the other form stands in a matrix (a text keeps to one form)"),
     (MATRIX + "a leaves 1\n", 2, "a line of the other form stands in a matrix"),
+    (WEIGHT_MATRIX + "a weight 1\n", 2, "a line of the other form stands in a matrix"),
+    (WEIGHT_MATRIX + "a,,1,1,1,1\n", 2, "the row has 6 cells, the header has 5"),
+    (WEIGHT_MATRIX + "a,,1,0,1\n", 2, "the weighted row sum of 'a' is zero (weighted row sums are positive)"),
+    (WEIGHT_MATRIX + "a,,1,1,-0\n", 2, "the weight of 'a' is zero (weights are positive)"),
+    (WEIGHT_MATRIX + "a,,1,1,-2\n", 2, "'-2' is negative (weights are positive)"),
+    (WEIGHT_MATRIX + "a,,1,1,1\nb,,,1\n", 3, "stage 'b' has no weight"),
+    (WEIGHT_MATRIX + "b,,,1,-\na,,1,1,1\n", 2, "stage 'b' has no weight"),
+    (WEIGHT_MATRIX + "a,,1,,1\nb,,,1,1\n", 2, "stage 'a' has no weighted row sum"),
+    (WEIGHT_MATRIX + "a,,1\nb,,,1,1\n", 2, "stage 'a' has no weighted row sum"),
+    (WEIGHT_MATRIX + "a,,1,1,1\n", 1, "stage 'b' has no row"),
     (MATRIX + "reading margins\n", 2, "a line of the other form stands in a matrix"),
-    ("from,a,b\na,,1\nb,,\n", 1, "'leaves' or 'margin' as its last cell"),
-    ("a,leaves\n", 1, "'leaves' or 'margin' as its last cell"),
+    *((f"{header}\na,,1,1,1\n", 1, LAST_CELLS)
+      for header in ("from,a,b", "a,leaves", "from,a,b,weight", "from,a,b,sum", "from,a,b,weight,sum", "sum,weight",
+                     "from,sum,weight", "from,a,b,sum,,weight", "from,a,b,sum,weights", "from,a,b,margin,weight")),
     ("from,a,,leaves\n", 1, "a stage has an empty name"),
     ("from,a,b,a,leaves\n", 1, "stage 'a' is named twice (first on line 1)"),
     ('from,"a""b",leaves\n', 1, "holds a double quote"),
@@ -588,8 +635,9 @@ ERRORS: list[tuple[str, int, str]] = [
        "-512 to 512") for cells in (",", ",5", ",second", ",2^513 seconds", ",ticks,x", ",,", ',"2^-10"')),
     ("# x\nunit,ticks\nUnit,ticks\n" + MATRIX + "a,,1,1\nb,,,\n", 3, "the unit is given twice (first on line 2)"),
     ("unit,ticks\n\n", 3, "no header row of stage names follows the unit"),
-    ("unit,ticks\na,,1,1\n", 2, "'leaves' or 'margin' as its last cell"),
-    ("unit,leaves\n", 1, "'leaves' or 'margin' as its last cell"),
+    ("unit,ticks\na,,1,1\n", 2, LAST_CELLS),
+    ("unit,leaves\n", 1, LAST_CELLS),
+    ("unit,sum,weight\n", 1, LAST_CELLS),
     (MATRIX + "unit,ticks\na,,1,1\nb,,,\n", 2, "the row with the unit stands before the header row"),
     (MATRIX + "unit ticks\n", 2, "a line of the other form stands in a matrix"),
     ("from,a,b,margin\na,,1,1\nb,,,\n", 3, "stage 'b' has no margin"),
@@ -610,8 +658,7 @@ class Errors(ToolTest):
 
     def test_standard_input(self) -> None:
         """A text on standard input has a name too."""
-        self.assertEqual(self.bad("make", "-", stdin=b"reading x\n"),
-                         "<stdin>:1: the reading is 'leaving-rates' or 'margins'")
+        self.assertEqual(self.bad("make", "-", stdin=b"reading x\n"), f"<stdin>:1: {THE_READING}")
 
     def test_bytes(self) -> None:
         """Bytes that are not UTF-8, and a text that is too long."""
@@ -640,6 +687,8 @@ class Errors(ToolTest):
         for command in ([], ["make"], ["show"], ["table"], ["prices"]):
             self.assertIn(b"usage: sheet.py", self.good(*command, "--help"))
         self.assertIn(b"FROM", self.good("make", "--help").upper())
+        for word in (b"\n  signer leaves ", b"\n  signer margin ", b"\n  signer sum ", b"\n  signer weight "):
+            self.assertIn(word, self.good("make", "--help"))
         self.assertIn(b"\n  stage,price  ", self.good("prices", "--help"))
         self.assertIn(b"sheet.py prices prices.txt --names line.txt\n", self.good("--help"))
         for arguments in ([], ["weigh"], ["make"], ["make", "a", "b"], ["show", "--hex", "x"], ["prices"],
@@ -667,10 +716,10 @@ class Show(ToolTest):
     """Sheet files as text."""
 
     def test_round_trip(self) -> None:
-        """What make wrote comes back with the same bytes, with names and without, in either reading."""
+        """What make wrote comes back with the same bytes, with names and without, in each reading."""
         rng = random.Random(3)
         for n in (1, 2, 3, 4, 5, 8, 9, 16, 31, 32):
-            for reading in (1, 2):
+            for reading in (1, 2, 3):
                 typed = random_typed(rng, reading, n)
                 data = self.make(as_lines(typed))
                 self.write("line.sheet", data)
@@ -712,8 +761,14 @@ class Show(ToolTest):
                 self.assertIn(f"\ns1 leaves {diagonal}  # bits {word:016x}\n", text)
             if off is not None:
                 self.assertIn(f"\ns1 -> s2 {off}  # bits {word:016x}\n", text)
+            text = self.good("show", "-", stdin=packed(3, 1, [word, word])).decode()
+            if diagonal is not None:
+                self.assertIn(f"\ns1 sum {diagonal}  # bits {word:016x}\n", text)
+                self.assertIn(f"\ns1 weight {diagonal}  # bits {word:016x}\n", text)
         self.assertIn("\ns1 margin 0  # bits 0000000000000000\n",
                       self.good("show", "-", stdin=packed(2, 1, [0])).decode())
+        self.assertIn("\ns1 sum 0  # bits 0000000000000000\ns1 weight 0  # bits 0000000000000000\n",
+                      self.good("show", "-", stdin=packed(3, 1, [0, 0])).decode())
         nan = self.good("show", "-", stdin=packed(1, 2, [0, 0x7ff8dead00000001, 0, 0]))
         self.assertEqual(self.bad("make", "-", stdin=nan),
                          "<stdin>:5: 'nan' is not a number (write it like 0.25, 1e-6 or 0x1p-20)")
@@ -722,7 +777,7 @@ class Show(ToolTest):
         """A file that dwell does not read is refused in words, by the same number and row."""
         self.write("names.txt", "reading margins\nstages first second\n")
         words = [nearest(Fraction(x)) for x in (1, -1, -1, 0)]
-        damaged = [struct.pack("<IH", length, 2) + bytes(10000) for length in (8455, 8456)]
+        damaged = [struct.pack("<IH", length, 2) + bytes(10000) for length in (8717, 8718)]
         damaged += [packed(1, 2, words, e) for e in (513, -513, -32768)]
         damaged += [struct.pack("<IH", length, 1) + bytes([1, 0, 2, 0, 0, 0, 0, 0])[:length] + packed_rows(2, words)
                     for length in (0, 3, 5, 7, 8)]
@@ -733,6 +788,15 @@ class Show(ToolTest):
             damaged += [data[:at] + bytes([at + 3]) + data[at + 1:]
                         for at in (0, 4, 6, rows, rows + 4, rows + 6, rows + 24, rows + 28, rows + 30)]
             damaged += [data[:8] + bytes([count]) + data[9:] for count in (0, 1, 3, 33)]
+            damaged += [data[:6] + bytes([reading]) + data[7:] for reading in (0, 3, 4)]
+        weights = packed_rows(2, [0] * 6)[48:]
+        with_weights = packed(3, 2, [nearest(Fraction(x)) for x in (2, -1, -1, 1, 1, 2)], 7)
+        rows = with_weights[:-22]
+        damaged += [with_weights[:cut] for cut in (12, 36, 59, 60, 65, 66, 81)]
+        damaged += [with_weights + b"\0", with_weights + weights, rows + packed_rows(2, [0] * 4)[:24],
+                    rows + struct.pack("<IH", 8, 3) + bytes(8), rows + struct.pack("<IH", 24, 3) + bytes(24),
+                    rows + struct.pack("<IH", 16, 4) + bytes(16), packed(1, 2, words) + weights]
+        rows_told = set()
         for content in damaged:
             printed = re.fullmatch(r"refused (\d+) (\d+) 0\n", dwell(content).decode())
             assert printed is not None, content
@@ -741,7 +805,11 @@ class Show(ToolTest):
             place = f" at row {row}" if row else ""
             self.assertTrue(said.startswith(f"x.sheet: refused ({printed[1]}{place}): the file "), said)
             if row:
-                self.assertIn(f"stage {row} ({['first', 'second'][row - 1]})", said)
+                self.assertIn(["the row of stage 1 (first)", "the row of stage 2 (second)",
+                               "the record of the weights"][row - 1], said)
+            rows_told.add((printed[1], row))
+        self.assertEqual(rows_told, {("11", 0), ("11", 1), ("11", 2), ("11", 3), ("12", 0), ("13", 1), ("13", 2),
+                                     ("13", 3), ("14", 0)})
         self.assertIn("refused (11", self.bad("show", "/dev/null"))
         self.assertIn("refused (12", self.bad("show", "/dev/zero"))
 
@@ -776,7 +844,7 @@ class Tables(ToolTest):
         for text, word in zip(texts, words):
             self.assert_shortest(text, number(word))
         self.check_alignment(rows, typed.names)
-        allowance = (4 if typed.reading == 1 else 12) * n ** 3
+        allowance = ALLOWANCES[typed.reading] * n ** 3
         exact = exact_seconds(typed, rounded_value)
         for place, word in enumerate(words):
             self.assertTrue(is_near(number(word), exact[place // n][place % n], allowance))
@@ -795,13 +863,11 @@ class Tables(ToolTest):
         self.check_alignment(rows, names)
 
     def test_random_sheets(self) -> None:
-        """Random sheets of both readings; leaving rates far below the rates."""
+        """Random sheets of each reading; leaving rates far below the rates."""
         rng = random.Random(5)
-        accepted = 0
-        for n in (1, 2, 2, 3, 3, 4, 5, 6):
-            for reading in (1, 2):
-                accepted += self.check_table(random_typed(rng, reading, n, random_rate)) is not None
-        self.assertGreater(accepted, 8)
+        accepted = Counter(reading for n in (1, 2, 2, 3, 3, 4, 5, 6) for reading in (1, 2, 3)
+                           if self.check_table(random_typed(rng, reading, n, random_rate)) is not None)
+        self.assertGreater(min(accepted[reading] for reading in (1, 2, 3)), 3)
 
     def test_idle_stages(self) -> None:
         """Random sheets, each with one to three idle stages at any places."""
@@ -821,6 +887,8 @@ class Tables(ToolTest):
         typed = Typed(1, names, {pair: text for pair, text in rates.items() if pair[0] != pair[1]},
                       {i: "1e-6" for i in range(32)})
         self.assertIsNotNone(self.check_table(typed))
+        weights = [f"{i % 5 + 1}e{i % 7 - 3}" for i in range(32)]
+        self.assertIsNotNone(self.check_table(typed._replace(reading=3, weights=weights)))
 
     def test_without_names(self) -> None:
         """Stages are s1, s2, ... without --names; a file is read as well as standard input."""
@@ -990,10 +1058,69 @@ class Units(ToolTest):
 
     def test_longest_file(self) -> None:
         """The tool reads the longest file, and like dwell one byte more."""
-        longest = packed(1, 32, [0] * 1024, 512)
-        self.assertEqual(len(longest), sheet.LONGEST_FILE)
+        longest = packed(3, 32, [0] * 1056, 512)
+        self.assertEqual((len(longest), sheet.LONGEST_FILE), (8722, 8722))
         self.assertIn(b"\nunit 2^512 seconds\n", self.good("show", "-", stdin=longest))
         self.assertIn("refused (14)", self.bad("show", "-", stdin=longest + b"\0"))
+
+
+class Weights(ToolTest):
+    """Sheets with weights, from a text to the file, back to a text, and to the table."""
+
+    LINES = "reading weights\nstages a b\na -> b 1\nb -> a 1\na sum 2\nb sum 1.5\na weight 1\nb weight 2\n"
+    WORDS = [nearest(Fraction(x)) for x in (2, -1, -1, Fraction(3, 2), 1, 2)]
+
+    def test_bytes(self) -> None:
+        """A sheet of two stages with weights, byte by byte, and what dwell prints: A is [4, -1 | -1, 1.25]."""
+        data = self.make(self.LINES)
+        self.assertEqual(data.hex(), "060000000100" "030002000000" "120000000200" "0100" "0000000000000040"
+                                     "000000000000f0bf" "120000000200" "0200" "000000000000f0bf" "000000000000f83f"
+                                     "100000000300" "000000000000f03f" "0000000000000040")
+        self.assertEqual(dwell(data), b"seconds 2 48 0\n1 1 3fd4000000000000\n1 2 3fd0000000000000\n"
+                                      b"2 1 3fd0000000000000\n2 2 3ff0000000000000\n")
+
+    def test_layouts(self) -> None:
+        """Lines and rows in any order, both words in capitals in a header row, blanks, quotes and empty cells."""
+        data = packed(3, 2, self.WORDS)
+        for text in ["reading weights\nstages a b\nb weight 2\na weight 0x1\nb -> a 1\na sum 2.\na -> b 1.0\n"
+                     "b sum 1.5\n",
+                     "from,a,b,sum,weight\na,,1,2,1\nb,1,,1.5,2\n", "x,a,b,Sum,WEIGHT\nb,1,0,1.5,2\na,-,1,2,1\n",
+                     '"","a","b","sum","weight",""\n"a","","1","2","1"\n"b","1","","1.5","2",,\n',
+                     "x;a;b; sum ; weight ;;\na;;1;2;1;;\nb;1;;1.5;2\n",
+                     "x\ta\tb\tsum\tweight\na\t\t1\t2\t1\nb\t1\t\t1.5\t2\n",
+                     "weight,a,b,sum,weight\na,,1,2,1\nb,1,,1.5,2\n",
+                     "reading weights\nstages sum weight\nsum -> weight 1\nweight -> sum 1\nsum sum 2\n"
+                     "weight sum 1.5\nsum weight 1\nweight weight 2\n",
+                     "from,sum,weight,sum,weight\nsum,,1,2,1\nweight,1,,1.5,2\n"]:
+            self.assertEqual(self.make(text), data, text)
+            self.assertEqual(self.make(text.replace("\n", "\r\n")), data, text)
+
+    def test_edges_of_the_range(self) -> None:
+        """The largest and the smallest weights are taken."""
+        for text in ("0x1p-1022", "2.2250738585072014e-308", "1.7976931348623157e308", "0x1.fffffffffffffp1023"):
+            data = self.make(f"reading weights\nstage a\na sum {text}\na weight {text}\n")
+            self.assertEqual(data, packed(3, 1, [nearest(value(text))] * 2))
+
+    def test_show(self) -> None:
+        """The text of a file with weights: after its rates each stage has its weighted row sum and its weight."""
+        shown = self.good("show", "-", stdin=packed(3, 2, self.WORDS, -10)).decode()
+        self.assertEqual(shown, "reading weights\nunit ticks\nstages s1 s2\n\ns1 -> s2 1\ns1 sum 2\ns1 weight 1\n\n"
+                                "s2 -> s1 1\ns2 sum 1.5\ns2 weight 2\n")
+        self.assertEqual(self.make(shown), packed(3, 2, self.WORDS, -10))
+        self.assertEqual(self.good("show", "-", stdin=packed_short(3, 2, self.WORDS)).decode(),
+                         shown.replace("unit ticks", "unit seconds"))
+
+    def test_table(self) -> None:
+        """The table of a text with weights, with its allowance; weights that are all doubled, with their sums, give
+        the same table, and no stage is idle."""
+        out = self.good("table", "--names", "line.txt", stdin=dwell(self.make(self.LINES)))
+        self.assertEqual(split_table(out, ["a", "b"])[1], [["0.3125", "0.25"], ["0.25", "1"]])
+        self.check_accuracy_line(out, 48)
+        doubled = "reading weights\nstages a b\na -> b 1\nb -> a 1\na sum 4\nb sum 3\na weight 2\nb weight 4\n"
+        self.assertEqual(dwell(self.make(doubled)), dwell(self.make(self.LINES)))
+        apart = "reading weights\nstages a b\na sum 4\nb sum 3\na weight 2\nb weight 0.75\n"
+        out = self.good("table", stdin=dwell(self.make(apart)))
+        self.assertEqual((split_table(out, ["s1", "s2"])[1], idle_line(out)), ([["0.5", "0"], ["0", "0.25"]], ""))
 
 
 ROWS = "stage,price\n"
@@ -1227,7 +1354,7 @@ class PriceLists(ToolTest):
         self.assertEqual(first, f"Price of a request by the stage at which it enters, for prices per {paid_for(e)}:")
         self.check_alignment(rows, typed.names)
         self.assertEqual(idle_line(out) != "", len(live_stages(typed)) < n)
-        allowance = (4 if typed.reading == 1 else 12) * n ** 3 + n
+        allowance = ALLOWANCES[typed.reading] * n ** 3 + n
         self.check_accuracy_line(out, allowance)
         paid = [rounded_value(price) for price in prices]
         for text, times in zip(texts, exact_seconds(typed, rounded_value), strict=True):
@@ -1261,11 +1388,12 @@ class PriceLists(ToolTest):
         self.assertEqual(named.decode(), out.replace("s1  3", "a    3").replace("s2  5", "b c  5"))
 
     def test_known_prices(self) -> None:
-        """The order of the sum, the rounding of each operation, both readings and zeros of either sign, by hand."""
+        """The order of the sum, the rounding of each operation, each reading and zeros of either sign, by hand."""
         chain, two_53 = [0.0, -1.0, 0.0, 0.0, 0.0, -1.0, 0.0, 0.0, 1.0], 2.0 ** 53
         for reading, n, numbers, prices, expected in [
                 (1, 1, [2.0], [3.0], ["1.5"]), (2, 2, [3.0, -1.0, -4.0, 1.0], [1.0, 3.0], ["1.25", "4"]),
                 (2, 2, [2.0, 0.0, -1.0, 4.0], [8.0, 16.0], ["4", "5"]),
+                (3, 2, [2.0, -1.0, -1.0, 1.5, 1.0, 2.0], [1.0, 2.0], ["0.8125", "2.25"]),
                 (1, 3, chain, [two_53, 1.0, 1.0], ["9007199254740992", "2", "1"]),
                 (1, 3, chain, [1.0, 1.0, two_53], ["9007199254740994", "9007199254740992", "9007199254740992"]),
                 (1, 2, [0.0, -1.0, 0.0, 3.0], [1.0, 3.0], ["2", "1"]),
@@ -1276,14 +1404,14 @@ class PriceLists(ToolTest):
             self.assertEqual(split_list(result.out, [f"s{j + 1}" for j in range(n)])[1], expected)
 
     def test_random_sheets(self) -> None:
-        """Random sheets of both readings and random prices against exact fractions."""
+        """Random sheets of each reading and random prices against exact fractions."""
         rng = random.Random(13)
-        accepted = 0
+        accepted: Counter[int] = Counter()
         for n in (1, 2, 2, 3, 3, 4, 5, 6):
-            for reading in (1, 2):
+            for reading in (1, 2, 3):
                 typed = random_typed(rng, reading, n, random_rate)
-                accepted += self.check_list(typed, [rng.choice(["0", random_rate(rng)]) for _ in range(n)])
-        self.assertGreater(accepted, 8)
+                accepted[reading] += self.check_list(typed, [rng.choice(["0", random_rate(rng)]) for _ in range(n)])
+        self.assertGreater(min(accepted[reading] for reading in (1, 2, 3)), 3)
 
     def test_thirty_two_stages(self) -> None:
         """A loop of 32 stages with leaving rates of a millionth."""
@@ -1295,13 +1423,14 @@ class PriceLists(ToolTest):
         """Random sheets in random units, often with idle stages, at random prices: bits and decisions."""
         rng = random.Random(14)
         decisions = []
-        for at in range(300):
-            reading, n = rng.choice([1, 2]), rng.randint(1, 6) if at % 20 else rng.randint(7, 16)
+        for at in range(400):
+            reading, n = rng.choice([1, 2, 3]), rng.randint(1, 6) if at % 20 else rng.randint(7, 16)
             numbers = reference.random_sheet(rng, reading, n, reference.random_style(rng, 300 if n < 7 else 30))
-            total = n + rng.choice([0, 0, 1, 2]) if reading == 1 else n
-            numbers = reference.among_idle(rng, n, numbers, total)[1]
-            decisions.append(self.check_against_reference(reading, total, reference.random_unit(rng), numbers,
-                                                          reference.random_prices(rng, total)))
+            if reading == 1:
+                own, n = n, n + rng.choice([0, 0, 1, 2])
+                numbers = reference.among_idle(rng, own, numbers, n)[1]
+            decisions.append(self.check_against_reference(reading, n, reference.random_unit(rng), numbers,
+                                                          reference.random_prices(rng, n)))
         for decision, least in (("accepted", 100), ("table", 5), ("prices", 20)):
             self.assertGreater(decisions.count(decision), least, decision)
 
@@ -1310,7 +1439,7 @@ class PriceLists(ToolTest):
         rng = random.Random(15)
         pairs = []
         for _ in range(60):
-            reading, n = rng.choice([1, 2]), rng.randint(1, 4)
+            reading, n = rng.choice([1, 2, 3]), rng.randint(1, 4)
             numbers = reference.random_sheet(rng, reading, n, reference.random_style(rng, 30))
             edge = reference.price_edge_pair(rng, reading, n, numbers, reference.random_prices(rng, n))
             if edge is not None:
@@ -1408,7 +1537,7 @@ class PriceLists(ToolTest):
 class Refusals(ToolTest):
     """Refusals in words."""
 
-    WORDS = {1: "reading is neither 1", 2: "not from 1 to 32", 3: "n × n numbers", 4: "room lent", 5: "asked for",
+    WORDS = {1: "reading is not 1", 2: "not from 1 to 32", 3: "n × n numbers", 4: "room lent", 5: "asked for",
              6: "not a finite number", 7: "wrong sign", 8: "too small", 9: "never gets out", 10: "range of binary64",
              11: "the file ends before", 12: "does not begin with the head", 13: "something else where",
              14: "goes on after", 15: "power of two to move by", 16: "a number that is moved",
@@ -1438,9 +1567,10 @@ class Refusals(ToolTest):
         """The sentences that speak of prices, which calls of the library may be refused with."""
         for printed, sentence in [
                 (b"refused 4 0 0\n", "refused (4): the room lent for the answer is smaller than it needs (n × n "
-                 "numbers for a table or a sheet, n for one column or for prices, the file's bytes for saving)."),
+                 "numbers for a table, as many as the sheet has where it is loaded or moved, n for one column or for "
+                 "prices, the file's bytes for saving)."),
                 (b"refused 10 0 0\n", "refused (10): a step of the calculation leaves the range of binary64 numbers, "
-                 "since some rates or prices are too large, too small or too far apart."),
+                 "since some rates, weights or prices are too large, too small or too far apart."),
                 (b"refused 18 0 0\n", "refused (18): the prices are not n in number, one for each of the sheet's n "
                  "stages."),
                 (b"refused 19 2 0\n", "refused (19 at row 2): the unit price of stage 2 (key ceremony) is not a "
@@ -1449,8 +1579,10 @@ class Refusals(ToolTest):
             self.assertEqual(self.said(printed), sentence)
 
     def test_places(self) -> None:
-        """On the diagonal it is a leaving rate or a margin, elsewhere a rate; row 0 of a file is its head."""
-        self.assertIn("the leaving rate or margin of stage 1 (intake) is", self.said(b"refused 6 1 1\n"))
+        """On the diagonal it is a leaving rate, a margin or a weighted row sum, elsewhere a rate; row 0 of a file is
+        its head."""
+        self.assertIn("the leaving rate, margin or weighted row sum of stage 1 (intake) is",
+                      self.said(b"refused 6 1 1\n"))
         self.assertIn("the rate from stage 1 (intake) to stage 2 (key ceremony) is", self.said(b"refused 6 1 2\n"))
         self.assertIn("before the head is complete", self.said(b"refused 11 0 0\n"))
         self.assertIn("the row of stage 3 (signer)", self.said(b"refused 11 3 0\n"))
@@ -1460,16 +1592,43 @@ class Refusals(ToolTest):
         self.assertTrue(self.said(b"refused 77 0 0\n").startswith("refused (77): "))
         self.assertIn("the rate from stage 1 to stage 2 is not", self.bad("table", stdin=b"refused 6 1 2\n"))
 
+    def test_places_of_weights(self) -> None:
+        """The weights are row n + 1: with names n is known, and without them both meanings of a row are told."""
+        for printed, words in [
+                (b"refused 6 4 2\n", ": the weight of stage 2 (key ceremony) is not a finite number."),
+                (b"refused 7 4 3\n", ": the weight of stage 3 (signer) has the wrong sign (rates and leaving rates "
+                 "are zero or positive; margins, weighted row sums and weights are positive)."),
+                (b"refused 8 4 1\n", ": the weight of stage 1 (intake) is too small"),
+                (b"refused 8 3 1\n", ": the rate from stage 3 (signer) to stage 1 (intake) is too small"),
+                (b"refused 11 4 0\n", ": the file ends before the record of the weights is complete."),
+                (b"refused 13 4 0\n", ": the file has something else where the record of the weights is due (another "
+                 "kind, length or row number)."),
+                (b"refused 14 0 0\n", ": the file goes on after its last row, or in reading 3 after its weights.")]:
+            self.assertIn(words, self.said(printed))
+        for printed, words in [
+                (b"refused 6 4 2\n", ": the rate from stage 4 to stage 2 (or, in a sheet of weights with n = 3, the "
+                 "weight of stage 2) is not a finite number."),
+                (b"refused 6 2 2\n", ": the leaving rate, margin or weighted row sum of stage 2 is not"),
+                (b"refused 11 2 0\n", ": the file ends before the row of stage 2 (or, in a sheet of weights with "
+                 "n = 1, the record of the weights) is complete."),
+                (b"refused 11 1 0\n", ": the file ends before the row of stage 1 is complete."),
+                (b"refused 11 0 0\n", ": the file ends before the head is complete.")]:
+            self.assertIn(words, self.bad("table", stdin=printed))
+
     def test_through_dwell(self) -> None:
         """Sheets that dwell refuses, through the program."""
         one, move, sheet_a = nearest(Fraction(1)), nearest(Fraction(-1)), packed(1, 1, [nearest(Fraction(2))])
         for data, start in [
                 (packed(1, 2, [one, 0x7ff8000000000000, one, one]), "refused (6 at row 1, column 2): the rate from"),
-                (packed(2, 1, [0]), "refused (7 at row 1, column 1): the leaving rate or margin of"),
+                (packed(2, 1, [0]), "refused (7 at row 1, column 1): the leaving rate, margin or weighted row sum"),
+                (packed(3, 3, [one, 0, 0, 0, one, 0, 0, 0, one, one, 0, one]),
+                 "refused (7 at row 4, column 2): the weight of stage 2 (key ceremony) has the wrong sign"),
+                (packed(3, 3, [one, 0, 0, 0, one, 0, 0, 0, one, one, 0, one])[:-1],
+                 "refused (11 at row 4): the file ends before the record of the weights"),
                 (packed(1, 2, [one, 0, 0x8000000000000001, one]), "refused (8 at row 2, column 1): the rate from"),
                 (packed(1, 2, [one, move, 0, 0]), "refused (9 at row 2): a request at stage 2 (key ceremony) never"),
                 (packed(1, 1, [nearest(Fraction(2) ** 1022)]), "refused (10): "), (b"", "refused (11): "),
-                (sheet_a[:-1], "refused (11 at row 1): "), (b"\4\0\0\0\1\0\3\0\1\0", "refused (12): "),
+                (sheet_a[:-1], "refused (11 at row 1): "), (b"\4\0\0\0\1\0\4\0\1\0", "refused (12): "),
                 (packed(1, 1, [one], 513), "refused (12): "), (packed(1, 1, [one], -513), "refused (12): "),
                 (sheet_a[:16] + b"\3" + sheet_a[17:], "refused (13 at row 1): "),
                 (sheet_a + b"\0", "refused (14): ")]:
@@ -1503,12 +1662,13 @@ class Garbage(ToolTest):
         """Examples with stretches replaced; what make accepts comes back from show."""
         rng = random.Random(6)
         pieces = [b"", b"\n", b'"', b"#", b",", b";", b"\t", b"->", b" ", b"-", b"0", b"1e9", b"\xff", b"\0", b"\r",
-                  b"stages", b"reading", b"leaves", b"\xc2\xa0", b"\xe2\x80\xa8", b"\x0b", b"nan", b"a b", b"unit",
-                  b"ticks", b"2^3 seconds"]
+                  b"stages", b"reading", b"leaves", b"weight", b"sum", b"weights", b"\xc2\xa0", b"\xe2\x80\xa8",
+                  b"\x0b", b"nan", b"a b", b"unit", b"ticks", b"2^3 seconds"]
         texts = [(ROOT / "examples" / name).read_bytes()
-                 for name in ("signing.txt", "panel.txt", "retired.txt", "terminal.txt", "cards.csv")]
+                 for name in ("signing.txt", "panel.txt", "coating.txt", "retired.txt", "terminal.txt", "cards.csv")]
+        texts.append(b"unit,ticks\nfrom,a,b,sum,weight\na,,1,2,1\nb,1,,1.5,2\n")
         short = [re.sub(rb"(?m)^.?#.*\n", b"", text) for text in texts]
-        for _ in range(800):
+        for _ in range(1000):
             text = self.changed(rng, rng.choice(short), pieces)
             self.check("make", "-", stdin=text)
             made = run("make", "-", stdin=text)
@@ -1537,11 +1697,12 @@ class Garbage(ToolTest):
         """Sheet files and dwell's output with bytes replaced."""
         rng = random.Random(7)
         pieces = [b"", b"\0", b"\1", b"\2", b"\x7f\xff", b"\n", b" ", b"3", b"ff", b"refused 1 2 3", b"\xc3"]
-        file = packed(2, 3, [nearest(Fraction(k % 4 == 0) - Fraction(1, 3)) for k in range(9)], -10)
+        words = [nearest(Fraction(k % 4 == 0) - Fraction(1, 3)) for k in range(9)]
+        files = [packed(2, 3, words, -10), packed(3, 3, words + [nearest(Fraction(k)) for k in (1, 2, 3)], 7)]
         output = (b"seconds 2 32 -10\n1 1 3ff0000000000000\n1 2 3ff0000000000000\n"
                   b"2 1 3ff0000000000000\n2 2 7ff0000000000000\n")
         for _ in range(300):
-            self.check("show", "-", stdin=self.changed(rng, file, pieces))
+            self.check("show", "-", stdin=self.changed(rng, rng.choice(files), pieces))
             self.check("table", stdin=self.changed(rng, output, pieces))
             self.check("table", "--hex", stdin=self.changed(rng, output, pieces))
 
@@ -1553,10 +1714,12 @@ def read_lines(path: Path) -> Typed:
     text = re.sub(r"#.*", "", path.read_text())
     names = " ".join(re.findall(r"^stages (.*)$", text, re.MULTILINE)).split()
     moves = re.findall(r"^(\w+) *-> *(\w+) +(\S+)", text, re.MULTILINE)
-    last = re.findall(r"^(\w+) +(?:leaves|margin) +(\S+)", text, re.MULTILINE)
-    return Typed(2 if "reading margins" in text else 1, names,
-                 {(names.index(a), names.index(b)): x for a, b, x in moves}, {names.index(a): x for a, x in last},
-                 "".join(re.findall(r"^unit (.*)$", text, re.MULTILINE)))
+    last = re.findall(r"^(\w+) +(?:leaves|margin|sum) +(\S+)", text, re.MULTILINE)
+    weights = dict(re.findall(r"^(\w+) +weight +(\S+)", text, re.MULTILINE))
+    reading = next(number for number, word in READING_WORDS.items() if f"reading {word}" in text)
+    return Typed(reading, names, {(names.index(a), names.index(b)): x for a, b, x in moves},
+                 {names.index(a): x for a, x in last}, "".join(re.findall(r"^unit (.*)$", text, re.MULTILINE)),
+                 [weights[name] for name in names] if weights else ())
 
 
 def norm(matrix: Exact) -> Fraction:
@@ -1615,6 +1778,31 @@ class Examples(ToolTest):
         for row, exact_row in zip(self.seconds("panel.txt", typed.names), exact_inverse(matrix), strict=True):
             for x, y in zip(row, exact_row, strict=True):
                 self.assertLessEqual(abs(x - y), y / 10 ** 15)
+
+    def test_coating(self) -> None:
+        """The weights give the rates of the comment.  The row sum of slitting is negative, and in every order of the
+        stages eight of its forty cards come back or more, so its margin is negative too.  The table is exact, and
+        other weights have the same matrix."""
+        typed = read_lines(ROOT / "examples" / "coating.txt")
+        self.assertEqual((typed.reading, typed.names), (3, ["slitting", "coating", "check", "packing"]))
+        self.assertEqual(self.good("make", str(ROOT / "examples" / "coating.txt")), expected_file(typed))
+        matrix = exact_matrix(typed)
+        done = [Fraction(text) for text in ("0.015625", "0.25", "0.15625", "0.5")]
+        self.assertEqual([matrix[i][i] for i in range(4)], done)
+        self.assertEqual((-matrix[0][1], -matrix[2][1]), (40 * done[0], done[2] / 5))
+        self.assertEqual(sum(matrix[0]), done[0] - 40 * done[0])
+        for order in itertools.permutations(range(4)):
+            share: dict[int, Fraction] = {}
+            for i in order:
+                comes_back = sum((-matrix[i][j] * share.get(j, Fraction(1)) for j in range(4) if j != i), Fraction(0))
+                share[i] = comes_back / matrix[i][i]
+            self.assertGreaterEqual(share[0], 8, order)
+        self.assertEqual(self.seconds("coating.txt", typed.names), exact_inverse(matrix))
+        weights = [Fraction(x) for x in (300, 7, 6, 5)]
+        sums = [sum(x * weight for x, weight in zip(row, weights, strict=True)) for row in matrix]
+        self.assertGreater(min(sums), 0)
+        other = typed._replace(diagonal={i: str(x) for i, x in enumerate(sums)}, weights=[str(x) for x in weights])
+        self.assertEqual(exact_matrix(other), matrix)
 
     def test_cards(self) -> None:
         """The matrix says the same as lines with its numbers."""

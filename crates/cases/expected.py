@@ -5,7 +5,7 @@
     python3 crates/cases/expected.py stdout > crates/cases/stdout
 
 dwell's input: all sheets of document 01, the cases of its reading that a file can carry, damaged files, sheets
-at the edge of the range, and random sheets of both readings with every n from 1 to 32; in files with document 01's
+at the edge of the range, and random sheets of readings 1 and 2 with every n from 1 to 32; in files with document 01's
 head and in files that say their unit. Calls of the whole table and of one entry where a file cannot: sizes and units
 out of range, sheets and areas of a wrong length, stages out of range.
 Files for both readers: cut at every byte, a byte of a record's head changed, lengths, one byte more, a small area;
@@ -20,10 +20,13 @@ Moving to another time unit: the questions in order, both ends of the range of k
 zeros of either sign, sheets that no table takes, 32 stages, random sheets by the last k that moves them and the first
 that does not, and 1 by every k.
 Prices: the questions in order, every fault of a price, the papers' sheets, orders of the sum, zeros of either sign,
-idle stages, each way to leave the range, prices at the edge of it, and random sheets of both readings with every n
+idle stages, each way to leave the range, prices at the edge of it, and random sheets of readings 1 and 2 with every n
 from 1 to 32.
 Moving and the services: sheets moved in two moves and in one, and the table, one column and prices of the sheet and of
 the moved sheet, which are compared before they are written.
+Weights: all of this for reading 3, with random sheets of some n up to 32; each question of the rows and the weights
+before the next, every step that weights add, orders of a pivot's steps, their record in files, and moves that leave
+them as they are.
 Before an accepted table, column or price is written it is compared with the exact inverse by the accuracy rule.
 """
 from __future__ import annotations
@@ -34,18 +37,19 @@ import struct
 import sys
 from collections import Counter
 from pathlib import Path
-from typing import Iterable, Iterator, NamedTuple, Union
+from typing import Iterable, Iterator, NamedTuple, Sequence, Union
 
 sys.path.insert(0, str(Path(__file__).resolve().parents[2] / "tools"))
 sys.dont_write_bytecode = True
 
 from reference import (GREATEST_INT64, HEAD, IN_SECONDS, INF, LARGEST, LEAST_INT64, LIMIT, NAN, P_SHEET,  # noqa: E402
-                       POWERS_OUT_OF_RANGE, SHEET_ROW, Column, Loaded, Moved, Prices, Refused, Saved, Style, Table,
-                       accuracy, among_idle, bits_of, column, column_accuracy, divided, dwell, edge_pair, entry,
-                       file_length, load, make_file, make_head, make_rows, make_short_file, make_short_file_words,
-                       make_short_head, move, number_of, price_accuracy, price_edge_pair, random_prices, random_sheet,
-                       random_size, random_style, range_facts, record, request_prices, save, sheet_parts,
-                       sheet_to_move, table, table_of_stream, uneven_sheet, word_of)
+                       POWERS_OUT_OF_RANGE, SHEET_ROW, SHEET_WEIGHTS, W_SHEET, Column, Loaded, Moved, Prices, Refused,
+                       Saved, Style, Table, accuracy, among_idle, bits_of, column, column_accuracy, divided, dwell,
+                       edge_pair, entry, file_length, load, make_file, make_head, make_records, make_short_file,
+                       make_short_file_words, make_short_head, move, number_of, price_accuracy, price_edge_pair,
+                       random_prices, random_sheet, random_size, random_style, range_facts, record, records_of,
+                       request_prices, save, sheet_length, sheet_parts, sheet_to_move, table, table_of_stream,
+                       uneven_sheet, word_of)
 
 Sheet = tuple[int, int, list[float]]  # reading, n, numbers
 
@@ -128,14 +132,15 @@ def damaged_rows(p: bytes) -> list[bytes]:
 def damaged_files() -> list[bytes]:
     """Files that are refused before a sheet is known, and the bytes that dwell judges."""
     p = make_file(1, 2, -10, P_SHEET)
-    longest = make_file(1, LIMIT, 512, [2.0 if i % (LIMIT + 1) == 0 else 0.0 for i in range(LIMIT * LIMIT)])
+    doubled = [2.0 if i % (LIMIT + 1) == 0 else 0.0 for i in range(LIMIT * LIMIT)]
+    longest = make_file(3, LIMIT, 512, doubled + [1.0] * LIMIT)
     return [
         b"", *damaged_rows(p), *damaged_rows(make_short_file(1, 2, P_SHEET)), make_head(1, 33, 0),
-        make_short_head(1, 33), make_short_head(1, 0), make_short_head(3, 1), make_head(0, 1, 0),
+        make_short_head(1, 33), make_short_head(1, 0), make_short_head(4, 1), make_head(0, 1, 0),
         record(SHEET_ROW, struct.pack("<HH", 1, 1)), record(HEAD, b"\1\0"), record(HEAD, b"\1\0\1\0\0"),
         make_file(1, 2, 513, P_SHEET), make_file(1, 2, -513, P_SHEET),
         struct.pack("<IH", 2 ** 32 - 1, HEAD) + p[6:], longest + b"\0", longest + bytes(4000), longest[:-1],
-        *(struct.pack("<IH", length, SHEET_ROW) + bytes(10000) for length in (8456, 8455, 8454, 9000))]
+        *(struct.pack("<IH", length, SHEET_ROW) + bytes(10000) for length in (8718, 8717, 8716, 9000))]
 
 
 def accepted(sheet: Sheet) -> bool:
@@ -165,20 +170,20 @@ def edge_of(sheet: Sheet) -> list[Sheet]:
     return [sheet]
 
 
-def random_edges(rng: random.Random, count: int) -> Iterator[Sheet]:
+def random_edges(rng: random.Random, count: int, readings: Sequence[int]) -> Iterator[Sheet]:
     """Random sheets of few stages, carried to the edge of the range."""
     for _ in range(count):
-        reading, n = rng.choice([1, 2]), rng.randint(1, 4)
+        reading, n = rng.choice(readings), rng.randint(1, 4)
         pair = edge_pair(rng, reading, n, random_sheet(rng, reading, n, random_style(rng)))
         if pair is not None:
             yield reading, n, pair[0]
             yield reading, n, pair[1]
 
 
-def small_sheets(rng: random.Random, count: int) -> Iterator[Sheet]:
+def small_sheets(rng: random.Random, count: int, readings: Sequence[int]) -> Iterator[Sheet]:
     """Random sheets of few stages and every style, accepted or out of range."""
     for _ in range(count):
-        reading, n = rng.choice([1, 2]), rng.randint(1, 7)
+        reading, n = rng.choice(readings), rng.randint(1, 7)
         yield reading, n, random_sheet(rng, reading, n, random_style(rng))
 
 
@@ -199,23 +204,25 @@ STYLES = [Style(1.0, 3, 20, 0.2), Style(0.1, 200, 0, 0.5), Style(0.3, 30, 60, 0.
           Style(0.6, 0, 200, 0.2), Style(0.1, 30, 20, 1.0), Style(1.0, 30, 400, 0.0), Style(0.3, 150, 60, 0.2)]
 
 
-def every_size(rng: random.Random) -> Iterator[Sheet]:
-    """For each reading and each n from 1 to 32 an accepted sheet."""
-    for reading in (1, 2):
-        for n in range(1, LIMIT + 1):
-            yield accepted_sheet(rng, reading, n, STYLES[(n + 3 * reading) % len(STYLES)])
+def of_sizes(rng: random.Random, reading: int, sizes: Iterable[int]) -> Iterator[Sheet]:
+    """For each of these n an accepted sheet."""
+    for n in sizes:
+        yield accepted_sheet(rng, reading, n, STYLES[(n + 3 * reading) % len(STYLES)])
 
 
-def large_refused(rng: random.Random) -> Iterator[Sheet]:
-    """Large sheets with a bad last number, and one in which cycles of stages are trapped."""
-    for reading, n in ((1, 19), (2, 32)):
-        sheet = random_sheet(rng, reading, n, Style(0.5, 30, 0, 0.5))
-        for last in (NAN, -1.0, 2.0 ** -1074, LARGEST):
-            yield reading, n, sheet[:-1] + [last]
+def bad_last_number(rng: random.Random, reading: int, n: int) -> Iterator[Sheet]:
+    """A large sheet with a bad last number."""
+    sheet = random_sheet(rng, reading, n, Style(0.5, 30, 0, 0.5))
+    for last in (NAN, -1.0, 2.0 ** -1074, LARGEST):
+        yield reading, n, sheet[:-1] + [last]
+
+
+def many_trapped() -> Sheet:
+    """A sheet in which cycles of stages are trapped."""
     n = 20
     leaving = {0: 1.0, n - 1: 1.0}
     moves = {(i, (7 * i + 3) % n) for i in range(n)}
-    yield 1, n, [leaving.get(i, 0.0) if i == j else -float((i, j) in moves) for i in range(n) for j in range(n)]
+    return 1, n, [leaving.get(i, 0.0) if i == j else -float((i, j) in moves) for i in range(n) for j in range(n)]
 
 
 def files(sheets: Iterable[Sheet]) -> Iterator[bytes]:
@@ -231,10 +238,11 @@ def inputs() -> list[bytes]:
     for sheet in steps_out_of_range():
         sheets.append(sheet)
         sheets += edge_of(sheet)
-    sheets += random_edges(rng, 40)
-    sheets += small_sheets(rng, 100)
-    sheets += every_size(rng)
-    sheets += large_refused(rng)
+    sheets += random_edges(rng, 40, [1, 2])
+    sheets += small_sheets(rng, 100, [1, 2])
+    for reading in (1, 2):
+        sheets += of_sizes(rng, reading, range(1, LIMIT + 1))
+    sheets += [*bad_last_number(rng, 1, 19), *bad_last_number(rng, 2, LIMIT), many_trapped()]
     return [*damaged_files(), *files(sheets)]
 
 
@@ -328,19 +336,24 @@ def save_cases(reading: int, n: int, e: int, words: list[int], room: int) -> Ite
         yield Case(packed(letter, [reading, n, e, room, *words]), text + line(again, handed_head(again), loaded))
 
 
+def save_any_words(rng: random.Random, reading: int, n: int) -> Iterator[Case]:
+    """A sheet of any words, NaN patterns among them, with room to spare or just enough."""
+    words = [rng.choice([rng.getrandbits(64), 0x7ff0000000000001 + rng.getrandbits(40), 0xfff8000000000000, 1 << 63,
+                         0]) for _ in range(sheet_length(reading, n))]
+    return save_cases(reading, n, UNITS[n % len(UNITS)], words, file_length(reading, n) + n % 3)
+
+
 def saves(rng: random.Random) -> Iterator[Case]:
     """Sheets of every n, with room to spare or just enough; sheets that saving refuses, in the questions' order; each
     unit, and a sheet that was loaded from a file by document 01."""
     for n in range(1, LIMIT + 1):
-        words = [rng.choice([rng.getrandbits(64), 0x7ff0000000000001 + rng.getrandbits(40), 0xfff8000000000000, 1 << 63, 0])
-                 for _ in range(n * n)]
-        as_words, as_numbers = save_cases(1 + n % 2, n, UNITS[n % len(UNITS)], words, file_length(n) + n % 3)
+        as_words, as_numbers = save_any_words(rng, 1 + n % 2, n)
         yield as_words
         if n <= 12 or n == LIMIT:
             yield as_numbers
     p = [bits_of(x) for x in P_SHEET]
     for reading, n, e, words, room in [
-            (0, 0, 513, [], 0), (3, 33, 0, p, 59), (1, 0, -513, [], 0), (2, 33, 0, [0] * 1089, 8500),
+            (0, 0, 513, [], 0), (4, 33, 0, p, 59), (1, 0, -513, [], 0), (2, 33, 0, [0] * 1089, 8500),
             (1, 2 ** 63, 513, p, 0), (2, 2, 513, p[:3], 0), (1, 2, -513, p, 60), (2, 2, GREATEST_INT64, p, 0),
             (1, 2, LEAST_INT64, p, 60), (2, 2, 512, p[:3], 0), (1, 2, -512, p + [0], 60), (1, 2, 0, p, 59),
             (2, 2, -10, p, 0), (1, 2, 10, p, 60)]:
@@ -363,10 +376,11 @@ def every_entry(reading: int, e: int, sheet: list[float]) -> list[Case]:
             *(entry_case(reading, 2, e, sheet, i, j) for i in range(4) for j in range(4))]
 
 
-def large(reading: int, e: int) -> list[Case]:
+def large(reading: int, e: int, weights: Sequence[float] = ()) -> list[Case]:
     """A sheet of 32 stages, and every one of its entries."""
     rates = [-1.0, 0.0, -0.1, -3.0, -0.0, -1.0e-7, -1.0e-7]
     sheet = [1.0e-6 if i == j else rates[(5 * i + 3 * j) % 7] for i in range(LIMIT) for j in range(LIMIT)]
+    sheet += weights
     return [table_case(reading, LIMIT, e, sheet, 1030), entries_case(reading, e, sheet)]
 
 
@@ -387,7 +401,7 @@ def units() -> Iterator[Case]:
 def calls() -> list[Case]:
     """Questions 1, 2, 12, 3, 4 and 5, each before the numbers are looked at, and accepted and refused sheets."""
     return [
-        *both(0, 0, 513, [NAN]), *both(3, 1, 0, [NAN]), *both(1, 0, -513, []), *both(2, 33, 0, [1.0] * 1089),
+        *both(0, 0, 513, [NAN]), *both(4, 1, 0, [NAN]), *both(1, 0, -513, []), *both(2, 33, 0, [1.0] * 1089),
         *both(1, 2 ** 63, GREATEST_INT64, [NAN]), *units(), table_case(1, 2, 512, [NAN] * 3, 3),
         table_case(1, 2, -512, [NAN] * 5, 0), entry_case(2, 2, 512, [NAN] * 3, 0, 0), table_case(1, 2, 0, [NAN] * 4, 3),
         table_case(1, 1, -10, [NAN], 0), entry_case(1, 1, 10, [NAN], 2, 1), *both(1, 1, 0, [NAN]),
@@ -571,19 +585,20 @@ def move_case(reading: int, n: int, e: int, sheet: list[float], k: int, room: in
     answer = move(reading, n, e, sheet, k, room)
     area = [AREA_NUMBER] * room
     if isinstance(answer, Moved):
-        area[:n * n] = answer.numbers
+        area[:len(answer.numbers)] = answer.numbers
     return Case(packed("m", [reading, n, e, room, k, *(bits_of(x) for x in sheet)]),
                 line(answer, [answer.e] if isinstance(answer, Moved) else [], [bits_of(x) for x in area]))
 
 
-def move_edges(rng: random.Random, count: int) -> Iterator[tuple[Sheet, int]]:
+def move_edges(rng: random.Random, count: int, readings: Sequence[int]) -> Iterator[tuple[Sheet, int]]:
     """So many random sheets, every second one upward, each with the last k that moves it and the first that does
     not."""
     for at in range(count):
         while True:
-            reading, n, step = rng.choice([1, 2]), rng.randint(1, 6), 1 if at % 2 else -1
+            reading, n, step = rng.choice(readings), rng.randint(1, 6), 1 if at % 2 else -1
             sheet = sheet_to_move(rng, reading, n)
-            moved = [isinstance(move(reading, n, IN_SECONDS, sheet, step * size, n * n), Moved) for size in range(513)]
+            moved = [isinstance(move(reading, n, IN_SECONDS, sheet, step * size, len(sheet)), Moved)
+                     for size in range(513)]
             if not all(moved):
                 break
         first = moved.index(False)
@@ -594,7 +609,7 @@ def move_edges(rng: random.Random, count: int) -> Iterator[tuple[Sheet, int]]:
 def moves(rng: random.Random) -> Iterator[Case]:
     """Questions 1, 2, 12, 3 and 4 in order; the sheets above; 32 stages, once with a last number that cannot be moved
     so far; random sheets by the last k that moves them and the first that does not; 1 by every k, which gives 2^k."""
-    for reading, n, e, sheet, room in [(0, 0, 513, [NAN], 0), (3, 1, 0, [1.0], 1), (1, 33, 0, [1.0] * 1089, 5),
+    for reading, n, e, sheet, room in [(0, 0, 513, [NAN], 0), (4, 1, 0, [1.0], 1), (1, 33, 0, [1.0] * 1089, 5),
                                        (2, 2 ** 63, -513, [NAN], 0), (1, 2, 513, [NAN] * 3, 0),
                                        (2, 2, LEAST_INT64, [NAN] * 5, 0), (1, 2, 512, [NAN] * 3, 0),
                                        (2, 2, -512, [NAN] * 4, 3)]:
@@ -604,7 +619,7 @@ def moves(rng: random.Random) -> Iterator[Case]:
     sheet = random_sheet(rng, 1, LIMIT, STYLES[0])
     yield move_case(1, LIMIT, 0, sheet, -10, 1030)
     yield move_case(1, LIMIT, -10, sheet[:-1] + [LARGEST], 10, 1024)
-    for (reading, n, sheet), k in move_edges(rng, 4):
+    for (reading, n, sheet), k in move_edges(rng, 4, [1, 2]):
         yield move_case(reading, n, IN_SECONDS, sheet, k, n * n + 1)
     for k in range(-512, 513):
         yield move_case(1, 1, IN_SECONDS, [1.0], k, 1)
@@ -648,7 +663,7 @@ def price_questions() -> Iterator[Case]:
     """Questions 1, 2, 12, 3, 4, 18 and 6 to 9, each before the next and before the prices are looked at."""
     nans = [NAN] * 4
     for reading, n, e, sheet, prices, room in [
-            (0, 0, 513, [], [], 0), (3, 2, 0, P_SHEET, [1.0, 1.0], 2), (1, 0, -513, [NAN], [], 0),
+            (0, 0, 513, [], [], 0), (4, 2, 0, P_SHEET, [1.0, 1.0], 2), (1, 0, -513, [NAN], [], 0),
             (2, 33, 0, [1.0] * 1089, [1.0] * 33, 33), (1, 2 ** 63, 513, [NAN], [], 0),
             *((1, 2, e, nans[:3], nans[:3], 0) for e in (513, -513, 2 ** 32, LEAST_INT64, GREATEST_INT64)),
             (2, 2, 512, nans[:3], [], 0), (1, 2, -512, [*nans, NAN], [NAN], 2), (1, 2, 0, nans, [], 1),
@@ -660,44 +675,53 @@ def price_questions() -> Iterator[Case]:
         yield price_case(reading, 2, 0, sheet, nans[:2], 2)
 
 
-def prices(rng: random.Random) -> Iterator[Case]:
-    """All cases of prices. For each n an accepted sheet of either reading in turn, at prices about 1; at the edge of the
-    range sheets of few stages."""
-    yield from price_questions()
-    for at, ((reading, n, sheet), given) in enumerate(PRICED):
-        yield price_case(reading, n, UNITS[at % len(UNITS)], sheet, given, n + at % 3)
-    for n in range(1, LIMIT + 1):
-        reading = 1 + n % 2
-        sheet = accepted_sheet(rng, reading, n, STYLES[n * 5 % len(STYLES)])[2]
-        given = [random_size(rng, 3) if rng.random() < 0.9 else -0.0 for _ in range(n)]
-        yield price_case(reading, n, IN_SECONDS, sheet, given, n + 1)
-    live, wide = among_idle(rng, 13, accepted_sheet(rng, 1, 13, STYLES[2])[2], 20)
-    yield price_case(1, 20, -10, wide, [float(j + 1) for j in range(20)], 20)
+def prices_about_one(rng: random.Random, reading: int, n: int) -> Case:
+    """An accepted sheet at prices about 1."""
+    sheet = accepted_sheet(rng, reading, n, STYLES[n * 5 % len(STYLES)])[2]
+    given = [random_size(rng, 3) if rng.random() < 0.9 else -0.0 for _ in range(n)]
+    return price_case(reading, n, IN_SECONDS, sheet, given, n + 1)
+
+
+def price_edges(rng: random.Random, count: int, readings: Sequence[int]) -> Iterator[Case]:
+    """Sheets of few stages at prices on either side of the edge of the range, so many cases."""
     edges = 0
-    while edges < 10:
-        reading, n = rng.choice([1, 2]), rng.randint(1, 4)
+    while edges < count:
+        reading, n = rng.choice(readings), rng.randint(1, 4)
         sheet = accepted_sheet(rng, reading, n, STYLES[0])[2]
         for given in price_edge_pair(rng, reading, n, sheet, random_prices(rng, n)) or ():
             yield price_case(reading, n, IN_SECONDS, sheet, given, n)
             edges += 1
 
 
+def prices(rng: random.Random) -> Iterator[Case]:
+    """All cases of prices of readings 1 and 2; for each n a sheet of either reading in turn."""
+    yield from price_questions()
+    for at, ((reading, n, sheet), given) in enumerate(PRICED):
+        yield price_case(reading, n, UNITS[at % len(UNITS)], sheet, given, n + at % 3)
+    for n in range(1, LIMIT + 1):
+        yield prices_about_one(rng, 1 + n % 2, n)
+    live, wide = among_idle(rng, 13, accepted_sheet(rng, 1, 13, STYLES[2])[2], 20)
+    yield price_case(1, 20, -10, wide, [float(j + 1) for j in range(20)], 20)
+    yield from price_edges(rng, 10, [1, 2])
+
+
 # ==== Moving and the services (document 02, U9) ====
 
-def sheets_to_commute(rng: random.Random) -> Iterator[tuple[Sheet, int]]:
-    """Sheets with the power that each is moved by: E, which becomes F, and F, which becomes E; P, H and I; a sheet with
-    an idle stage; and random ones of both readings that are accepted before and after."""
-    yield (1, 1, [2.0 ** 1021]), 1
-    yield (2, 1, [2.0 ** 1022]), -1
-    yield (1, 2, P_SHEET), -10
-    yield (2, 2, [3.0, -1.0, -4.0, 1.0]), 3
-    yield (2, 2, [2.0, -0.0, -1.0, 4.0]), -512
-    yield (1, 3, [2.0, -0.0, -1.0, 0.0, -0.0, 0.0, 0.0, -0.0, 4.0]), 500
-    for at, (reading, n) in enumerate([(1, 3), (2, 4), (1, 8), (2, 8), (2, 16)]):
+# Sheets with the power that each is moved by: E, which becomes F, and F, which becomes E; P, H and I; a sheet with an
+# idle stage.
+COMMUTING: list[tuple[Sheet, int]] = [
+    ((1, 1, [2.0 ** 1021]), 1), ((2, 1, [2.0 ** 1022]), -1), ((1, 2, P_SHEET), -10),
+    ((2, 2, [3.0, -1.0, -4.0, 1.0]), 3), ((2, 2, [2.0, -0.0, -1.0, 4.0]), -512),
+    ((1, 3, [2.0, -0.0, -1.0, 0.0, -0.0, 0.0, 0.0, -0.0, 4.0]), 500)]
+
+
+def accepted_both_ways(rng: random.Random, kinds: Iterable[tuple[int, int]]) -> Iterator[tuple[Sheet, int]]:
+    """For each reading and n a random sheet, with a power, that is accepted before it is moved and after."""
+    for at, (reading, n) in enumerate(kinds):
         reading, n, sheet = accepted_sheet(rng, reading, n, STYLES[at])
         while True:
             k = rng.choice([-1, 1]) * rng.randint(1, 400)
-            moved = move(reading, n, IN_SECONDS, sheet, k, n * n)
+            moved = move(reading, n, IN_SECONDS, sheet, k, len(sheet))
             if isinstance(moved, Moved) and accepted((reading, n, moved.numbers)):
                 break
         yield (reading, n, sheet), k
@@ -707,17 +731,18 @@ def in_two_moves(rng: random.Random, sheet: Sheet, k: int) -> Iterator[Case]:
     """A sheet moved by one power, and what that leaves by another; then by k, the sum of the two, in an area that holds
     the same before."""
     reading, n, numbers = sheet
+    room = len(numbers) + 2
     while True:
         a = rng.randint(max(-512, k - 512), min(512, k + 512))
-        first = move(reading, n, IN_SECONDS, numbers, a, n * n)
+        first = move(reading, n, IN_SECONDS, numbers, a, room)
         if isinstance(first, Moved):
             break
-    second, single = move(reading, n, a, first.numbers, k - a, n * n), move(reading, n, IN_SECONDS, numbers, k, n * n)
+    second, single = move(reading, n, a, first.numbers, k - a, room), move(reading, n, IN_SECONDS, numbers, k, room)
     if second != single:
         raise ArithmeticError(f"{sheet} by 2^{a} and then by 2^{k - a} is not {sheet} by 2^{k}")
-    yield move_case(reading, n, IN_SECONDS, numbers, a, n * n + 2)
-    yield move_case(reading, n, a, first.numbers, k - a, n * n + 2)
-    yield move_case(reading, n, IN_SECONDS, numbers, k, n * n + 2)
+    yield move_case(reading, n, IN_SECONDS, numbers, a, room)
+    yield move_case(reading, n, a, first.numbers, k - a, room)
+    yield move_case(reading, n, IN_SECONDS, numbers, k, room)
 
 
 def same_but_for_the_power(k: int, first: Union[Table, Column, Prices, Refused],
@@ -728,11 +753,13 @@ def same_but_for_the_power(k: int, first: Union[Table, Column, Prices, Refused],
             raise ArithmeticError(f"{second} is not {first} divided by 2^{k}")
 
 
-def commuting(rng: random.Random) -> Iterator[Case]:
-    """These sheets, moved in two moves and in one, and the table, one column and prices before and after."""
-    for (reading, n, sheet), k in sheets_to_commute(rng):
+def commuting(rng: random.Random, sheets: Sequence[tuple[Sheet, int]],
+              kinds: Sequence[tuple[int, int]]) -> Iterator[Case]:
+    """These sheets and random ones of these readings and n, moved in two moves and in one, and the table, one column
+    and prices before and after."""
+    for (reading, n, sheet), k in itertools.chain(sheets, accepted_both_ways(rng, kinds)):
         yield from in_two_moves(rng, (reading, n, sheet), k)
-        moved = move(reading, n, IN_SECONDS, sheet, k, n * n)
+        moved = move(reading, n, IN_SECONDS, sheet, k, len(sheet))
         stage, prices = rng.randint(1, n), random_prices(rng, n)
         pairs = [(table(reading, n, e, numbers, n * n), column(reading, n, e, numbers, stage, n),
                   request_prices(reading, n, e, numbers, prices, n))
@@ -752,22 +779,23 @@ def changed(data: bytes, at: int, new: bytes) -> bytes:
     return data[:at] + new + data[at + len(new):]
 
 
-def damaged(data: bytes, n: int, room: int) -> list[Case]:
-    """A file of n stages, whole and with each kind of damage."""
-    row = 8 + 8 * n
-    rows = range(len(data) - n * row, len(data), row)
+def damaged(data: bytes, room: int) -> list[Case]:
+    """A file, whole and with each kind of damage."""
     cases = [file_case(data[:at], room) for at in range(len(data) + 1)]
-    for start, width in [(0, rows[0])] + [(at, 8) for at in rows]:
-        for at in range(start, start + width):
+    start = 0
+    for at_record, own in enumerate(records_of(data)):
+        for at in range(start, start + (8 if at_record else len(own))):
             cases.append(file_case(changed(data, at, bytes([(data[at] + 1) % 256])), room))
         cases.append(file_case(changed(data, start, struct.pack("<I", 2 ** 32 - 1)), room))
-    return cases + [file_case(data + b"\0", room), file_case(data, n * n), file_case(data, n * n - 1)]
+        start += len(own)
+    needed = len(load(data, room).words)
+    return cases + [file_case(data + b"\0", room), file_case(data, needed), file_case(data, needed - 1)]
 
 
 def heads() -> Iterator[Case]:
     """Files of one stage with heads of every length up to 8, and with many e: at both ends of its range and past them,
     and words that are in it only by their low byte, or without their sign."""
-    rows = make_rows(1, [bits_of(2.0)])
+    rows = make_records(1, 1, [bits_of(2.0)])
     for length in range(9):
         yield file_case(record(HEAD, b"\1\0\1\0\0\0\0\0"[:length]) + rows, 2)
     for e in (512, -512, 511, -511, 513, -513, 255, -255, 256, -256, 768, -768, 32767, -32768, 0x0a00, -0x0a00, 1, -1):
@@ -776,12 +804,161 @@ def heads() -> Iterator[Case]:
     yield file_case(make_head(3, 33, 600), 0)
 
 
+# ==== Weights (document 02, U10) ====
+
+# W, one stage, and sheets of the other readings with weights; zeros of either sign; weights of 1, whose products are
+# steps; products and quotients at the edge of the range, and a zero beside a small weight.
+WEIGHTED: list[Sheet] = [
+    (3, 2, W_SHEET), (3, 1, [2.0, 0.5]), (3, 1, [3.0, 7.0]), (3, 2, [3.0, -1.0, -4.0, 1.0, 1.0, 3.0]),
+    (3, 2, [2.0, -0.0, 0.0, 4.0, 1.0, 2.0]), (3, 2, [1.0, -SMALLEST, 0.0, 2.0 ** -10, 1.0, 1.0]),
+    (3, 2, [1.0, -2 * SMALLEST, 0.0, 2.0 ** -10, 1.0, 1.0]),
+    (3, 2, [1.0, -(1 + 2.0 ** -52) * 2.0 ** -500, 0.0, 1.0, 1.0, (1 - 2.0 ** -53) * 2.0 ** -522]),
+    (3, 2, [1.0, 0.0, 0.0, 2.0 ** 10 * SMALLEST, 1.0, SMALLEST]), (3, 1, [2.0 ** -511, 2.0 ** 511]),
+    (3, 1, [2.0 ** -511, 2.0 ** 510]), (3, 1, [2.0 ** 1021, 1.0]), (3, 1, [2.0 ** 1021, 0.5]),
+    # sizes times weights fall, s_k comes after them, the sum is divided, and each product is rounded by itself
+    (3, 4, [2.0 ** -60, -2.0 ** 53, -2.0, -4.0, 0.0, 1.0, 0.0, 0.0, 0.0, 0.0, 1.0, 0.0, 0.0, 0.0, 0.0, 1.0,
+            2.0, 1.0, 0.5, 0.25]),
+    (3, 3, [2.0 ** 53, -2.0, -4.0, 0.0, 1.0, 0.0, 0.0, 0.0, 1.0, 0.5, 0.5, 0.25]),
+    (3, 2, [1.0, -2.0, 0.0, 1.0, 10.0, 1.0]),
+    (3, 2, [2.0 ** -53, -(1 + 2.0 ** -30), 0.0, 1.0, 1.0, 1 + 2.0 ** -30])]
+
+# Each of 6 to 8 of the rows and of the weights, which are row n + 1, before the next; 9 is not asked.
+WEIGHT_PLACES: list[Sheet] = [
+    *((3, 1, [2.0, weight]) for weight in (NAN, INF, -INF, 0.0, -0.0, -1.0, 2.0 ** -1074, -2.0 ** -1074,
+                                           number_of(bits_of(SMALLEST) - 1))),
+    (3, 1, [0.0, NAN]), (3, 1, [0.0, 0.0]), (3, 1, [-0.0, 1.0]), (3, 2, [1.0, 0.0, 0.0, 0.0, 1.0, 1.0]),
+    (3, 2, [1.0, -1.0, -1.0, 1.0, NAN, INF]), (3, 2, [1.0, -1.0, -1.0, 1.0, 1.0, -1.0]),
+    (3, 2, [1.0, 1.0, 0.0, 1.0, 0.0, INF]), (3, 2, [1.0, 0.0, NAN, 1.0, NAN, 1.0]),
+    (3, 2, [1.0, -2.0 ** -1074, 0.0, 1.0, 1.0, 0.0]), (3, 2, [1.0, -1.0, 0.0, 1.0, 2.0 ** -1074, -1.0]),
+    (3, 2, [1.0, -1.0, 0.0, 2.0 ** -1074, 2.0 ** -1074, 1.0]),
+    (3, 2, [1.0, -LARGEST, 0.0, 2.0 ** 1022, 1.0, 2.0 ** -1074])]
+
+
+def weighted_steps_out_of_range() -> list[Sheet]:
+    """For each kind of step that weights add, and for some others, a sheet in which one leaves the range first."""
+    tiny, huge, most = 2.0 ** -600, 2.0 ** 600, LARGEST
+    return [
+        (3, 2, [1.0, -tiny, 0.0, 1.0, 1.0, tiny]),                                          # t_kj·z_j too small
+        (3, 2, [1.0, -huge, 0.0, 1.0, 1.0, huge]),                                          # t_kj·z_j too large
+        (3, 3, [1.0, -most, -most, 0.0, 1.0, 0.0, 0.0, 0.0, 1.0, huge, 1.0, 1.0]),          # their sum
+        (3, 2, [most, -most, 0.0, 1.0, huge, 1.0]),                                         # that and s_k
+        (3, 1, [tiny, huge]), (3, 1, [huge, tiny]), (3, 2, [1.0, 0.0, 0.0, huge, 1.0, tiny]),   # the quotient by z_k
+        (3, 2, [huge, 0.0, -tiny, 1.0, 1.0, 1.0]),                                          # a downward m
+        (3, 2, [tiny, -1.0, -tiny, 1.0, 1.0, 1.0]),                                         # m·s_k
+        (3, 3, [1.0, -tiny, 0.0, 0.0, 1.0, -tiny, 0.0, 0.0, 1.0, 1.0, 1.0, 1.0])]           # an upward m·b_kj
+
+
+def weighted_sheets(rng: random.Random) -> Iterator[Sheet]:
+    """What dwell is given of reading 3."""
+    yield from WEIGHTED + WEIGHT_PLACES
+    for sheet in weighted_steps_out_of_range():
+        yield sheet
+        yield from edge_of(sheet)
+    yield from random_edges(rng, 20, [3])
+    yield from small_sheets(rng, 30, [3])
+    yield from of_sizes(rng, 3, [*range(1, 11), 13, 16, 20, 25, 29, LIMIT])
+    yield from bad_last_number(rng, 3, LIMIT)
+
+
+def weighted_files() -> Iterator[Case]:
+    """The record of the weights: cut and changed in every byte, of another kind or length, missing, in another place
+    and not due; dwell of some of these, and areas that are too small."""
+    w = make_file(3, 2, -10, W_SHEET)
+    head, first, second, own = records_of(w)
+    yield from damaged(w, 9)
+    yield from damaged(make_short_file_words(3, 1, [0x7FF4000012345678, 1 << 63]), 3)
+    for data in (head + first + second, head + own + first + second, head + first + own + second, w + own,
+                 head + first + second + first, head + first + second + record(SHEET_ROW, own[6:]),
+                 *(head + first + second + record(SHEET_WEIGHTS, bytes(length)) for length in (0, 8, 15, 17, 24)),
+                 *(head + first + second + record(kind, own[6:]) for kind in (1, 4, 259)),
+                 *(make_head(reading, 2, 0) + first + second + own for reading in (1, 2, 4)),
+                 make_head(3, 2, 513) + first + second + own):
+        yield file_case(data, 9)
+        yield dwell_case(data)
+    for room in (0, 4, 5, 6):
+        yield file_case(w, room)
+
+
+def weighted_calls() -> Iterator[Case]:
+    """Questions 1, 2, 12, 3, 4 and 5 of a sheet with weights: a table needs no room for them, a moved sheet does."""
+    for n, e, sheet in [(0, 513, [NAN]), (33, -513, [NAN]), (2 ** 63, 0, [NAN]), (2, 513, [NAN] * 4),
+                        (2, 0, [NAN] * 4), (2, 0, W_SHEET[:-1]), (2, 0, W_SHEET + [1.0]), (2, -512, [NAN] * 6)]:
+        yield from both(3, n, e, sheet)
+        yield move_case(3, n, e, sheet, 600, 0)
+        yield column_case(3, n, e, sheet, 1, 2)
+        yield price_case(3, n, e, sheet, [NAN], 0)
+    yield table_case(1, 2, 0, W_SHEET, 4)
+    yield column_case(3, 2, 0, W_SHEET, 1, 2)
+    for room in range(7):
+        yield table_case(3, 2, 0, W_SHEET, room)
+        yield move_case(3, 2, 0, W_SHEET, -10, room)
+    yield from every_entry(3, 512, W_SHEET)
+    yield from every_entry(3, -10, [1.0, -SMALLEST, 0.0, 2.0 ** -10, 1.0, 1.0])
+    yield from large(3, -512, [0.5 + j % 7 for j in range(LIMIT)])
+
+
+# A sheet with weights, the e of its unit, and the k that it is moved by: 16 does not look at weights.
+WEIGHTED_MOVES: list[tuple[Sheet, int, int]] = [
+    ((3, 2, W_SHEET), 0, -10), ((3, 2, [1.0, -0.0, 0.0, 3.0, 0.1, 0.3]), -1, 1), ((3, 1, [1.0, LARGEST]), 0, 512),
+    ((3, 1, [1.0, SMALLEST]), 0, -512), ((3, 1, [2.0 ** -510, 2.0 ** -600]), 0, -512),
+    ((3, 1, [2.0 ** -511, 1.0]), 0, -512), ((3, 1, [2.0 ** 512, 1.0]), 0, 512),
+    ((3, 2, [1.0, 0.0, -LARGEST, 1.0, 1.0, 1.0]), 0, 1), ((3, 1, [2.0 ** -600, 2.0 ** 600]), 0, 1),
+    ((3, 1, [2.0 ** 600, NAN]), 0, 600), ((3, 1, [2.0 ** 600, -0.0]), 512, 1),
+    ((3, 1, [2.0 ** 600, 2.0 ** -1074]), 0, 512), ((3, 1, [1.0, 1.0]), 0, 513), ((3, 1, [LARGEST, 1.0]), 512, 1)]
+
+
+# W; sheets that become E and F, by their weights; a product that leaves the range.
+WEIGHTED_COMMUTING: list[tuple[Sheet, int]] = [
+    ((3, 2, W_SHEET), -10), ((3, 1, [2.0 ** 1000, 2.0 ** -21]), 1), ((3, 1, [2.0 ** 1001, 2.0 ** -21]), -1),
+    ((3, 2, [1.0, -2.0 ** -900, 0.0, 1.0, 1.0, 2.0 ** -121]), -1)]
+
+
+def weighted_moves(rng: random.Random) -> Iterator[Case]:
+    """These moves, 32 stages, and random sheets by the last k that moves them and the first that does not."""
+    for at, ((reading, n, sheet), e, k) in enumerate(WEIGHTED_MOVES):
+        yield move_case(reading, n, e, sheet, k, len(sheet) + at % 3)
+    yield move_case(3, LIMIT, 0, random_sheet(rng, 3, LIMIT, STYLES[0]), -10, 1060)
+    for (reading, n, sheet), k in move_edges(rng, 4, [3]):
+        yield move_case(reading, n, IN_SECONDS, sheet, k, len(sheet) + 1)
+
+
+def weighted_prices(rng: random.Random) -> Iterator[Case]:
+    """Prices of sheets with weights: by hand, each question of the weights before 19, out of range, some n, and at
+    the edge of the range."""
+    pivot_out = [2.0 ** -600, 2.0 ** 600]
+    for n, sheet, given in [(2, W_SHEET, [1.0, 2.0]), (2, W_SHEET, [-0.0, 1.0]), (1, [2.0, 0.5], [8.0]),
+                            (1, [1.0, NAN], [NAN]), (1, [1.0, 0.0], [NAN]), (1, [1.0, 2.0 ** -1074], [NAN]),
+                            (1, pivot_out, [0.0]), (1, pivot_out, [-1.0]), (2, W_SHEET, [1.0, INF]),
+                            (2, W_SHEET, [1.0])]:
+        yield price_case(3, n, IN_SECONDS, sheet, given, n + 1)
+    for n in (1, 2, 3, 5, 8, 13, 21, LIMIT):
+        yield prices_about_one(rng, 3, n)
+    yield from price_edges(rng, 6, [3])
+
+
+def weights(rng: random.Random) -> Iterator[Case]:
+    """All cases of reading 3."""
+    for data in files(weighted_sheets(rng)):
+        yield dwell_case(data)
+    yield from weighted_calls()
+    yield from weighted_files()
+    for n in (1, 2, 3, 4, 7, 12, 19, LIMIT):
+        yield from save_any_words(rng, 3, n)
+    w = [bits_of(x) for x in W_SHEET]
+    for e, words, room in [(513, w, 82), (0, w[:4], 82), (0, w[:5], 0), (0, [*w, 0], 82), (-10, w, 81), (512, w, 82)]:
+        yield from save_cases(3, 2, e, words, room)
+    yield from weighted_moves(rng)
+    yield from weighted_prices(rng)
+    yield from commuting(rng, WEIGHTED_COMMUTING, [(3, 2), (3, 3), (3, 5), (3, 12)])
+
+
 def cases() -> list[Case]:
     one_nan = make_short_file_words(2, 1, [0xFFF4000012345678])
-    return [*(dwell_case(data) for data in inputs()), *calls(), *damaged(make_file(1, 2, -10, P_SHEET), 2, 5),
-            *damaged(one_nan, 1, 5), *heads(), *saves(random.Random(20260202)), *columns(random.Random(20260303)),
+    return [*(dwell_case(data) for data in inputs()), *calls(), *damaged(make_file(1, 2, -10, P_SHEET), 5),
+            *damaged(one_nan, 5), *heads(), *saves(random.Random(20260202)), *columns(random.Random(20260303)),
             *idle_stages(random.Random(20260404)), *moves(random.Random(20260505)), *prices(random.Random(20260606)),
-            *commuting(random.Random(20260707))]
+            *commuting(random.Random(20260707), COMMUTING, [(1, 3), (2, 4), (1, 8), (2, 8), (2, 16)]),
+            *weights(random.Random(20260808))]
 
 
 def main(arguments: list[str]) -> int:
