@@ -15,7 +15,7 @@ const LONGEST: usize = 16384;
 const PLACES: usize = 1100;
 
 // More bytes than the longest file has.
-const BYTES: usize = 8500;
+const BYTES: usize = 8800;
 
 // Room for the longest text.
 const ROOM: usize = 32768;

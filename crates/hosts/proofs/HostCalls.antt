@@ -15,7 +15,7 @@ module _ (bytes before : List ℕ) where
   unfolding reportText
   report-short short = record { written = rw (lt-leb 32768 (length before)) record { bytes = refl; counted = refl }; within = omega arith }
 
-  pub report-written : {after : List ℕ} {count : ℕ} → 32768 ≤ length before → Reported (fileText bytes (fileAnswer bytes 1024)) before after count
+  pub report-written : {after : List ℕ} {count : ℕ} → 32768 ≤ length before → Reported (fileText bytes (fileAnswer bytes 1056)) before after count
       → ReportCall bytes before after count
   unfolding reportText
   report-written enough done = record { written = rw (le-leb 32768 (length before)) (done .written); within = done .within }

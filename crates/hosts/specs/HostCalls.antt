@@ -10,7 +10,7 @@ use Rattle.buffer.specs.Pasted.{AtStart}
 
 -- The text of a report for an area of so many bytes: what dwell prints for the file, and nothing where the area is too short.
 unfoldable pub reportText : List ℕ → ℕ → List ℕ
-reportText bytes room = cond (leb 32768 room) (fileText bytes (fileAnswer bytes 1024)) []
+reportText bytes room = cond (leb 32768 room) (fileText bytes (fileAnswer bytes 1056)) []
 
 -- The report: the text at the start of the area, all else as it was, and the text's length returned, which the area holds.
 pub record ReportCall (bytes before after : List ℕ) (returned : ℕ) : Type 0 where
