@@ -81,7 +81,7 @@ pub extern "C" fn yulanbowls_prices(
     table_calls::prices(reading, n, e, sheet, prices, answer, allowance, row, column)
 }
 
-// A sheet file's numbers in the first n × n places of the area, each from its bits.
+// A sheet file's numbers in the first places of the area, each from its bits.
 #[no_mangle]
 pub extern "C" fn yulanbowls_read_numbers(
     bytes: &[u8],
@@ -97,7 +97,7 @@ pub extern "C" fn yulanbowls_read_numbers(
     file_calls::read_numbers(bytes, area, reading, n, e, row, column)
 }
 
-// A sheet file's 64-bit words in the first n × n places of the area; every bit is kept.
+// A sheet file's 64-bit words in the first places of the area; every bit is kept.
 #[no_mangle]
 pub extern "C" fn yulanbowls_read_words(
     bytes: &[u8],
@@ -147,7 +147,7 @@ pub extern "C" fn yulanbowls_save_words(
     file_calls::save_words(reading, n, e, sheet, bytes, length, row, column)
 }
 
-// The sheet times 2^k, in the first n × n places of the area, and its unit.
+// The sheet with its rates times 2^k, in the first places of the area, and its unit.
 #[no_mangle]
 pub extern "C" fn yulanbowls_move(
     reading: usize,

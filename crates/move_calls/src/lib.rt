@@ -1,7 +1,7 @@
 // Moving a sheet to another time unit with out places (`out_places`), as programs in C call it.
 ghost use Rattle.move_calls.specs.MoveCalls.{MoveCall};
 
-// The sheet times 2^k, in the first n × n places of the area, and its unit.
+// The sheet with its rates times 2^k, in the first places of the area, and its unit.
 pub fn move_sheet(
     reading: usize,
     n: usize,
