@@ -8,5 +8,4 @@ pub mod Comparison
 pub mod Elimination
 pub mod Perturbation
 pub mod Run
-pub mod Weights
 pub mod CommonDenominator

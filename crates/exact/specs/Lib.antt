@@ -6,4 +6,3 @@ pub mod Comparison
 pub mod Elimination
 pub mod Perturbation
 pub mod Run
-pub mod Weights

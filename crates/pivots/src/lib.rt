@@ -65,11 +65,14 @@ pub fn begin(r: usize, k: usize, weights: &[f64], t: &[f64; 1024]) -> Begun
     if weights.len() == 0 {
         let p = later_sizes(r, k, t) + s;
         let ok = rounding::is_finite(p);
-        return Begun { stage: Stage { s, p }, ok };
+        return Begun {
+            stage: Stage { s, p },
+            ok,
+        };
     }
     let sum = later_products(r, k, weights, t);
-    let total = sum.value + s;
     let z = weights[k];
+    let total = sum.value + s;
     let p = total / z;
     let step = rounding::result_in_range(total, z, p);
     Begun {

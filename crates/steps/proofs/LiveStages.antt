@@ -34,9 +34,6 @@ module _ (n : ℕ) (sheet : List Float) where
   unfolding takesPart
   live-is i = refl
 
-  pub live-not-idle : (i : ℕ) → takesPart 1 n sheet i ≡ true → idle n sheet i ≡ false
-  live-not-idle i e = not-true (idle n sheet i) (sym (live-is i) ∙ e)
-
   -- In the other readings every stage takes part.
   pub other-part : (reading : ℕ) → eqb reading 1 ≡ false → (i : ℕ) → takesPart reading n sheet i ≡ true
   unfolding takesPart

@@ -22,7 +22,7 @@ later-products-requires c κs =
 
 shared-slice-read-z : tie.Need-shared-slice-read-z
 shared-slice-read-z c =
-    let test = c .before .before .before in
+    let test = c .before .before in
     let p = test .before .before .before .pre in
     let enough = p .2 (omega arith) in
     omega arith
