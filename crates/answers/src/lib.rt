@@ -1,6 +1,7 @@
 // What the questions of a call come to, and what the services answer (document 01, "Which form goes where"):
 // what was asked for, or a refusal with its number, row and column. specs/Answers.antt gives the document's
 // answer for each case.
+#![tactic(auto)]
 
 // The number of the first question that is answered no, with a row and a column; 0 where all are answered yes.
 #[derive(Drop)]

@@ -1,5 +1,7 @@
 // Bytes written into a lent buffer. A writer takes the place where its bytes begin and returns the place after
 // them; every other byte stays as it was.
+#![tactic(auto)]
+
 ghost use Rattle.std.specs.Prelude.{[], ◌∷◌};
 ghost use Rattle.buffer.specs.Pasted.{Room, Written};
 

@@ -1,5 +1,7 @@
 // How many rows of n numbers a sheet has, how many numbers, and how many bytes its file: in reading 3 the weights are
 // one row more (document 02, U10).
+#![tactic(auto)]
+
 ghost use Rattle.std.specs.Prelude.{◌≡◌, ◌≤◌};
 ghost use Rattle.definitions.specs.File.{file_length};
 ghost use Rattle.definitions.specs.Sheet.{sheet_rows, sheet_numbers};

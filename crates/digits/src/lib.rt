@@ -1,4 +1,6 @@
 // Decimal numbers, with and without a sign, written into a lent buffer as `buffer` writes.
+#![tactic(auto)]
+
 ghost use Rattle.std.specs.Prelude.{◌≡◌, [], ◌∷◌, ◌++◌, length};
 ghost use Rattle.definitions.specs.Dwell.{decimal, integer};
 ghost use Rattle.buffer.specs.Pasted.{Room, Written};

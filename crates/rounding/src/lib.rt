@@ -1,5 +1,7 @@
 // The range tests of the steps' results, and 64-bit words as numbers. No function has a `requires`: each
 // contract holds for every f64 and every word.
+#![tactic(auto)]
+
 ghost use Rattle.std.specs.Prelude.{◌≡◌};
 ghost use Rattle.std.specs.Float.{binary64};
 ghost use Rattle.std.specs.Float.Ieee.{of_bits, to_bits};

@@ -3,11 +3,7 @@ use mathlib.Core.Path.{◌∙◌}
 use Rattle.rounding.proofs.Finite.{tests_finite}
 use Rattle.rounding.proofs.ResultRange.{is_zero_is}
 use lib.Ieee.{binary64, sub}
-use Rattle.rounding.proofs.is_finite.Statement.{statement}
-use Rattle.rounding.proofs.is_finite.Tie as tie
+use Rattle.rounding.proofs.is_finite.Goals as goal
 
-returns : tie.Need-returns
+pub returns : goal.returns
 returns c = is_zero_is (sub binary64 c.args.x c.args.x) ∙ tests_finite c.args.x
-
-pub is-finite-spec : {M : Type 1} → statement M
-is-finite-spec = tie.close (tie.spec returns)
