@@ -1,4 +1,6 @@
 // The allowance E of a table (document 01, "The sheet and its two readings"; document 02, U10), and of prices (U7).
+#![tactic(auto)]
+
 ghost use Rattle.std.specs.Prelude.{◌≡◌, ◌≤◌};
 ghost use Rattle.definitions.specs.Sheet.{allowance};
 ghost use Rattle.definitions.specs.Prices.{price_allowance};

@@ -1,5 +1,7 @@
 // Rows of a working table added to a row, eight numbers at a time: they stay in registers while the
 // rows are added. Blocks are whole, so the last one of a row may run on past the columns in use.
+#![tactic(auto)]
+
 ghost use Rattle.std.specs.Prelude.{◌≡◌, ℕ, ◌+◌, ◌≤◌, ◌<◌, Float};
 ghost use Rattle.tables.specs.RowMajor.{IsTable, table, Holds};
 ghost use Rattle.tables.specs.Operators.{span};

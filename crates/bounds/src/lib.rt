@@ -1,6 +1,8 @@
 // A bound of the nonzero numbers of a row from below, at most one. The quick range test multiplies
 // the bound in the place of each number. Four bounds are kept side by side, since each comparison
 // waits for the one before it.
+#![tactic(auto)]
+
 ghost use Rattle.std.specs.Prelude.{◌≡◌, cond, ◌+◌, ◌*◌, ◌≤◌, ◌<◌};
 ghost use Rattle.std.specs.Float.Ieee.{lt};
 ghost use Rattle.definitions.specs.Numbers.{0·0, 1·0, is_zero};

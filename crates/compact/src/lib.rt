@@ -1,5 +1,7 @@
 // A rising list of stages, and tables and vectors in compact order: place p of the list stands for stage
 // stages[p].
+#![tactic(auto)]
+
 ghost use Rattle.std.specs.Prelude.{◌≡◌, suc, ◌≤◌, ◌<◌, length};
 ghost use Rattle.tables.specs.RowMajor.{IsTable, table, Holds};
 ghost use Rattle.tables.specs.Operators.{span};

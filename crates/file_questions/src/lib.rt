@@ -1,4 +1,6 @@
 // The questions of a sheet file (document 01; document 02, U5 and U10): 11 to 14 record by record, then 4.
+#![tactic(auto)]
+
 ghost use Rattle.std.specs.Prelude.{true, ◌≡◌, ◌+◌, ◌≤◌, length, drop};
 ghost use Rattle.definitions.specs.File.{record_length, head_unit, known_head, good_head, good_record, file_answer};
 ghost use Rattle.definitions.specs.Services as services;

@@ -1,4 +1,6 @@
 // A 64-bit word as 16 hexadecimal digits, written into a lent buffer of bytes as `digits` writes.
+#![tactic(auto)]
+
 ghost use Rattle.std.specs.Prelude.{◌≡◌, cond, ◌+◌, ◌<◌, ltb};
 ghost use Rattle.definitions.specs.Dwell.{hexadecimal};
 ghost use Rattle.buffer.specs.Pasted.{Room, Written};

@@ -1,5 +1,7 @@
 // Idle stages (document 02, U3): in reading 1 a stage whose row and column are all zero is left out of the
 // steps. A zero of either sign counts, and the diagonal's too.
+#![tactic(auto)]
+
 ghost use Rattle.std.specs.Prelude.{◌≡◌, not, ◌<◌};
 ghost use Rattle.definitions.specs.Numbers.{all};
 ghost use Rattle.definitions.specs.Sheet.{idle, takes_part};

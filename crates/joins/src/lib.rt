@@ -1,4 +1,6 @@
 // The stages that are not kept join the known ones, from the highest down (document 01, "Steps for margins").
+#![tactic(auto)]
+
 ghost use Rattle.std.specs.Prelude.{◌≡◌, ◌≤◌, ◌<◌};
 ghost use Rattle.tables.specs.RowMajor.{IsTable, table};
 ghost use Rattle.tables.specs.Vectors.{IsVector, vector};

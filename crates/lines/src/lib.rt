@@ -1,4 +1,6 @@
 // The lines of a table, written into a lent buffer of bytes (document 01, "The sheet file").
+#![tactic(auto)]
+
 ghost use Rattle.std.specs.Prelude.{◌*◌, ◌≤◌, ◌<◌, length};
 ghost use Rattle.definitions.specs.Sheet.{place};
 ghost use Rattle.definitions.specs.Dwell.{entry_line, row_lines, table_lines};

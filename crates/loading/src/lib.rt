@@ -1,6 +1,8 @@
 // A sheet's sizes in a working table, and its diagonal's parameters: leaving rates on the table's diagonal,
 // or margins in a vector (document 01, "The sheet and its two readings"; document 02, U10). A zero of either sign becomes
 // plus zero. Places outside the sheet keep their numbers.
+#![tactic(auto)]
+
 ghost use Rattle.std.specs.Prelude.{◌<◌};
 ghost use Rattle.definitions.specs.Sheet.{size, diagonal};
 ghost use Rattle.tables.specs.RowMajor.{IsTable, table, Holds};

@@ -1,1 +1,2 @@
 // How near the steps for margins come to the exact solution. No functions.
+#![tactic(auto)]

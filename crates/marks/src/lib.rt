@@ -1,5 +1,7 @@
 // Marked stages beside their count, for question 9 of document 01: the stages with an exit, and those that
 // move to a stage.
+#![tactic(auto)]
+
 ghost use Rattle.std.specs.Prelude.{◌<◌, ◌||◌};
 ghost use Rattle.definitions.specs.Questions.{moves, leaves};
 ghost use Rattle.shape.specs.Square.{Square};

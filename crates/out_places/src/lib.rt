@@ -1,6 +1,8 @@
 // What a service answers, in the out places of a caller in C, who has no enums: the number of the refusal is
 // returned, or 0, and `row` and `column` tell the rest of it, 0 and 0 where there is none. What the call hands
 // over goes to the other places, which a refused call leaves as they were.
+#![tactic(auto)]
+
 ghost use Rattle.answers.specs.Answers.{filled_given, entry_given, head_given, saved_given, moved_given};
 ghost use Rattle.out_places.specs.OutPlaces.{ValueHanded, HeadHanded};
 

@@ -1,5 +1,7 @@
 // A stage's running sum and pivot (document 02, U8 and U10), on the table t of sizes and leaving rates and the weights,
 // which are none where no number is lent.
+#![tactic(auto)]
+
 ghost use Rattle.std.specs.Prelude.{◌≡◌, suc, ◌-◌, ◌≤◌, ◌<◌, length};
 ghost use Rattle.definitions.specs.LeavingRates.{none, later_sizes, products_in_range, pivot_in_range};
 ghost use Rattle.tables.specs.RowMajor.{IsTable, table};

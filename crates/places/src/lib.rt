@@ -1,4 +1,6 @@
 // Questions 6, 7 and 8 of document 01 with the first bad place.
+#![tactic(auto)]
+
 ghost use Rattle.std.specs.Prelude.{◌<◌, ◌≡◌};
 ghost use Rattle.definitions.specs.Sheet.{sheet_rows, place};
 ghost use Rattle.answers.specs.Outcome.{ComesTo};

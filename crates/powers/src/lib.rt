@@ -1,4 +1,6 @@
 // Powers of two as numbers (document 02, U4 and U6), from a constant table whose doubling rule is tested once.
+#![tactic(auto)]
+
 ghost use Rattle.std.specs.Prelude.{◌≡◌, T, pos, ◌+ℤ◌};
 ghost use Rattle.definitions.specs.Questions.{exponent_in_range};
 ghost use Rattle.rounding.specs.Scaling.{power};

@@ -3,6 +3,8 @@
 //
 // The sums come first and their range tests after them: each addition of a sum waits for the one before it, and
 // tests in between would keep the next row from beginning meanwhile.
+#![tactic(auto)]
+
 ghost use Rattle.std.specs.Prelude.{◌≤◌, ◌<◌, ◌≡◌, length};
 ghost use Rattle.definitions.specs.Numbers.{mul_in_range, all};
 ghost use Rattle.definitions.specs.Prices.{unit_price, good_price, question19, request_price, price_in_range};

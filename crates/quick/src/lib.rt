@@ -1,5 +1,7 @@
 // A quick pass of questions 6, 7 and 8 of document 01. It can only say yes: a no leaves open whether the
 // questions pass. There is no branch in its tests, so that a loop over many numbers is fast.
+#![tactic(auto)]
+
 ghost use Rattle.std.specs.Prelude.{◌≡◌, T};
 ghost use Rattle.definitions.specs.Questions.{pass, place_questions};
 ghost use Rattle.shape.specs.Square.{Square, WholeSheet};

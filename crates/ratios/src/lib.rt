@@ -1,5 +1,7 @@
 // a_i and k_i of every stage, rising, and which stages are kept: h_i needs the k_j of the stages before i
 // (document 01, "Steps for margins").
+#![tactic(auto)]
+
 ghost use Rattle.std.specs.Prelude.{◌≡◌, suc, ◌-◌, ◌≤◌, ◌<◌};
 ghost use Rattle.definitions.specs.Numbers.{0·0, sum};
 ghost use Rattle.tables.specs.RowMajor.{IsTable, table};

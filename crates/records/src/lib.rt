@@ -1,5 +1,7 @@
 // Records of a file (document 01, "The sheet file"): a 4-byte length of the payload, a 2-byte kind, the payload,
 // all little-endian.
+#![tactic(auto)]
+
 ghost use Rattle.std.specs.Prelude.{◌≡◌, ◌++◌, ◌+◌, ◌≤◌, ◌<◌, length, drop};
 ghost use Rattle.std.specs.Int.Signed.{mag};
 ghost use Rattle.definitions.specs.File.{little, signed, record_length, whole_record};

@@ -1,4 +1,6 @@
 // The line that dwell prints for a refusal (document 01, "The sheet file").
+#![tactic(auto)]
+
 ghost use Rattle.std.specs.Prelude.{◌≤◌, length};
 ghost use Rattle.definitions.specs.Dwell.{refused_line};
 ghost use Rattle.buffer.specs.Pasted.{AtStart};

@@ -1,4 +1,6 @@
 // The file of a sheet, written at the start of a lent buffer of bytes (document 02, U1, U5 and U10).
+#![tactic(auto)]
+
 ghost use Rattle.std.specs.Prelude.{◌≡◌, ◌++◌, ◌≤◌, T, length};
 ghost use Rattle.definitions.specs.Sheet.{sheet_numbers};
 ghost use Rattle.definitions.specs.File.{file_length};

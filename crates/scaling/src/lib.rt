@@ -1,1 +1,2 @@
 // No code: the steps on numbers that are all times a power of two (document 02, U9).
+#![tactic(auto)]

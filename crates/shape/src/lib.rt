@@ -2,6 +2,8 @@
 // stages asked for, with 12 of the unit among them, and those of moving, saving, one column and prices (document 02,
 // U1, U2, U4, U5, U7 and U10). Each answers 0, or the number of the first question that is answered no; their refusals have
 // no row and no column. And the number at a place of a sheet of that shape.
+#![tactic(auto)]
+
 ghost use Rattle.std.specs.Prelude.{◌*◌, ◌<◌, ◌≡◌, take, drop};
 ghost use Rattle.definitions.specs.Sheet.{sheet_numbers, place};
 ghost use Rattle.definitions.specs.Questions.{◌then◌, shape_questions, question4, question5};

@@ -1,4 +1,6 @@
 // The shares d_j / a_j of the new leaving rates (document 01, "Steps for margins").
+#![tactic(auto)]
+
 ghost use Rattle.std.specs.Prelude.{◌≤◌};
 ghost use Rattle.tables.specs.Vectors.{IsVector, vector};
 ghost use Rattle.compact.specs.Listing.{IsMask, marked};

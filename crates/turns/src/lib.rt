@@ -1,5 +1,7 @@
 // The rows of b take turns: downward they rise, upward they fall, and each gets the rows that are done added to
 // it, block by block. Places of b outside r × r are left open: blocks of eight columns run over them.
+#![tactic(auto)]
+
 ghost use Rattle.std.specs.Prelude.{◌≡◌, ◌≤◌, ◌<◌};
 ghost use Rattle.tables.specs.RowMajor.{IsTable, table};
 ghost use Rattle.passes.specs.RowPass.{turn, reach, staged};

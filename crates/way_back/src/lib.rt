@@ -1,5 +1,7 @@
 // The way back from the engine's answer to the kept stages: each row times k of its stage (document 01, "Steps for
 // margins").
+#![tactic(auto)]
+
 ghost use Rattle.std.specs.Prelude.{◌≤◌, ◌<◌};
 ghost use Rattle.definitions.specs.Numbers.{all};
 ghost use Rattle.tables.specs.RowMajor.{IsTable, table, Gives};

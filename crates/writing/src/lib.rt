@@ -1,4 +1,6 @@
 // The table in the answer area, row by row; and one column, from the first row to the last.
+#![tactic(auto)]
+
 ghost use Rattle.std.specs.Prelude.{◌≡◌, ◌≤◌, ◌<◌, ◌*◌, ◌++◌, length, drop};
 ghost use Rattle.definitions.specs.Tables.{list, rows};
 ghost use Rattle.tables.specs.RowMajor.{IsTable, table};

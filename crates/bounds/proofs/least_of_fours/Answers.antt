@@ -1,0 +1,16 @@
+-- `bounds::least_of_fours` meets its contract: at turn g four times g numbers are bounded. Assumes nothing.
+use Prim.Native.Nat.{◌+◌, ◌*◌, ◌-◌, ◌≤◌}
+use native.Mathlib.Omega.{arith}
+use borrow.Author.Rules.{rules}
+use Rattle.tables.specs.RowMajor.{table}
+use Rattle.bounds.proofs.Fours.{FourLeast, four_begins, four_turns, four_ends}
+use Rattle.bounds.proofs.least_of_fours.Goals as goal
+
+pub loop-g-preserved : goal.loop-g-preserved
+loop-g-preserved c = (omega arith, four_turns c.loop-g.invariant.1 (omega arith) c.lower_four-four.ensures)
+
+pub returns : goal.returns
+returns c = four_ends c.loop-g.invariant.1 (omega arith) c.smaller.ensures c.smaller-2.ensures c.smaller-3.ensures
+
+pub loop-g-init : goal.loop-g-init
+loop-g-init c = (search rules, four_begins (omega arith) c.requires.3)

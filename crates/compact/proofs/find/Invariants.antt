@@ -1,0 +1,14 @@
+-- `compact::find` meets its contract: stage i is at no place before q. Assumes nothing.
+use mathlib.Core.Path.{◌≡◌, sym, ◌∙◌}
+use Prim.Native.Nat.{ℕ, ◌≤◌, ◌<◌, ◌-◌}
+use native.Mathlib.Omega.{arith}
+use borrow.Author.Count.{below_more}
+use borrow.Author.Rules.{rules}
+use Rattle.compact.specs.Listing.{stage_at}
+use Rattle.compact.proofs.find.Given as goal
+
+abbrev pub invariant-loop-q : goal.invariant-loop-q
+invariant-loop-q l = (l.q ≤ l.r) × ((p : ℕ) → p < l.q → stage_at l.stages p ≡ l.i → ⊥)
+
+abbrev pub decreases-loop-q : goal.decreases-loop-q
+decreases-loop-q l = l.r - l.q

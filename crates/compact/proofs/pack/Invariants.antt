@@ -1,0 +1,17 @@
+-- `compact::pack` meets its contract: at place p the rows before it are done. Assumes nothing.
+use mathlib.Core.Path.{refl}
+use Prim.Native.Nat.{◌≤◌, ◌-◌}
+use native.Mathlib.Omega.{arith}
+use borrow.Author.Rules.{rules}
+use Rattle.tables.specs.RowMajor.{table}
+use Rattle.tables.specs.Operators.{between}
+use Rattle.tables.proofs.Loops.{Down, down_begins, down_spans, down_ends}
+use Rattle.compact.specs.Listing.{stage_at}
+use Rattle.compact.proofs.Packing.{packed_all}
+use Rattle.compact.proofs.pack.Given as goal
+
+abbrev pub invariant-loop-p : goal.invariant-loop-p
+invariant-loop-p l = (l.p ≤ l.r) × Down 0 (λ o. between 0 l.r (λ q. table l.t (stage_at l.stages o) (stage_at l.stages q)) (table l.initial.s o)) (table l.initial.s) l.s l.p
+
+abbrev pub decreases-loop-p : goal.decreases-loop-p
+decreases-loop-p l = l.r - l.p

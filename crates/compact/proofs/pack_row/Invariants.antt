@@ -1,0 +1,16 @@
+-- `compact::pack_row` meets its contract: at place q the places before it are done. Assumes nothing.
+use mathlib.Core.Path.{refl, ◌∙◌}
+use Prim.Native.Nat.{◌≤◌, ◌-◌}
+use native.Mathlib.Omega.{arith}
+use borrow.Author.Rules.{rules}
+use Rattle.tables.specs.RowMajor.{table}
+use Rattle.tables.proofs.Loops.{Along, along_begins, along_turns, along_ends}
+use Rattle.compact.specs.Listing.{stage_at}
+use Rattle.compact.proofs.Listings.{stage-below}
+use Rattle.compact.proofs.pack_row.Given as goal
+
+abbrev pub invariant-loop-q : goal.invariant-loop-q
+invariant-loop-q l = (l.q ≤ l.r) × Along l.p 0 (λ o. table l.t (stage_at l.stages l.p) (stage_at l.stages o)) (table l.initial.s) l.s l.q
+
+abbrev pub decreases-loop-q : goal.decreases-loop-q
+decreases-loop-q l = l.r - l.q

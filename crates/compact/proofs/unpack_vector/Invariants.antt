@@ -1,0 +1,16 @@
+-- `compact::unpack_vector` meets its contract: at place q the places before it are done. Assumes nothing.
+use Prim.Native.Nat.{◌≤◌, ◌-◌}
+use native.Mathlib.Omega.{arith}
+use borrow.Author.Rules.{rules}
+use Rattle.tables.specs.Vectors.{vector}
+use Rattle.compact.specs.Listing.{stage_at}
+use Rattle.compact.specs.Compact.{UnpackedVector}
+use Rattle.compact.proofs.Listings.{stage-below}
+use Rattle.compact.proofs.Packing.{vector_begins, vector_turns, vector_ends}
+use Rattle.compact.proofs.unpack_vector.Given as goal
+
+abbrev pub invariant-loop-q : goal.invariant-loop-q
+invariant-loop-q l = (l.q ≤ l.r) × UnpackedVector (stage_at l.stages) (vector l.y) l.q (vector l.initial.x) l.x
+
+abbrev pub decreases-loop-q : goal.decreases-loop-q
+decreases-loop-q l = l.r - l.q

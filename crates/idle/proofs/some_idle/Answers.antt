@@ -1,0 +1,30 @@
+-- `idle::some_idle` meets its contract: every stage before i takes part. Assumes nothing.
+use mathlib.Core.Logic.{⊎_elim}
+use mathlib.Core.Path.{refl, sym, ap, ◌∙◌}
+use mathlib.Core.Bool.{true, not}
+use Prim.Native.Nat.{◌≤◌, ◌-◌}
+use native.Mathlib.Omega.{arith}
+use borrow.Author.Rules.{rules}
+use Rattle.definitions.specs.Sheet.{takes_part}
+use Rattle.steps.proofs.Gathering.{Gathered, gathered_begins, gathered_turns, gathered_all}
+use Rattle.idle.proofs.Idling.{one_fails, told_apart, live_of}
+use Rattle.idle.proofs.some_idle.Goals as goal
+
+pub returns-then-is_idle : goal.returns-then-is_idle
+returns-then-is_idle c = sym (ap not (one_fails _ _ _ c.loop-i-test.true (sym (live_of _ _ _ c.is_idle.ensures) ∙ ap not c.if-is_idle.true)))
+
+pub loop-i-preserved : goal.loop-i-preserved
+loop-i-preserved c =
+    (
+      omega arith,
+      ⊎_elim
+          (λ w. gathered_turns c.loop-i.invariant.1 (sym (sym (live_of _ _ _ w.1.ensures) ∙ ap not w.2.left)))
+          (λ w. gathered_turns c.loop-i.invariant.1 (sym (told_apart _ _ _ c.loop-i-test.true c.number_at.ensures w.left)))
+          c.else-number_at.branch,
+    )
+
+pub returns : goal.returns
+returns c = ap not (gathered_all c.loop-i.invariant.1 (omega arith) (omega arith))
+
+pub loop-i-init : goal.loop-i-init
+loop-i-init c = (search rules, gathered_begins refl)

@@ -1,0 +1,31 @@
+-- `joins::column_sum` meets its contract: at stage l the known stages before it are added and tested. Assumes nothing.
+use mathlib.Core.Path.{sym, ap₂, ◌∙◌}
+use mathlib.Core.Logic.{⊎_elim}
+use Prim.Native.Nat.{◌≤◌, ◌-◌}
+use native.Mathlib.Omega.{arith}
+use borrow.Author.Rules.{rules}
+use Rattle.definitions.specs.Numbers.{◌⊗◌, mul_in_range}
+use Rattle.rounding.proofs.ResultRange.{product_test}
+use Rattle.rounding.proofs.Words.{zero_word}
+use Rattle.tables.specs.RowMajor.{table}
+use Rattle.tables.specs.Vectors.{vector}
+use Rattle.compact.specs.Listing.{marked}
+use Rattle.joins.specs.StageJoin.{knows, KnownSum}
+use Rattle.joins.proofs.ColumnSteps.{known-none, known_adds, known_skips, known-all}
+use Rattle.joins.proofs.column_sum.Goals as goal
+
+pub loop-l-preserved : goal.loop-l-preserved
+loop-l-preserved c =
+    let h = c.loop-l.invariant.1 in (
+      omega arith,
+      ⊎_elim
+          (λ v. rw (v.4, v.5) (known_adds h (sym c.is_Known.ensures ∙ v.0.true) (ap₂ ◌⊗◌ v.1.ensures v.2.ensures) (v.3.ensures ∙ product_test v.1.result v.2.result ∙ ap₂ mul_in_range v.1.ensures v.2.ensures)))
+          (λ v. rw (v.1, v.2) (known_skips h (sym c.is_Known.ensures ∙ v.0.left)))
+          c.if-is_known.branch,
+    )
+
+pub returns : goal.returns
+returns c = known-all c.loop-l.invariant.1 (omega arith) (omega arith)
+
+pub loop-l-init : goal.loop-l-init
+loop-l-init c = (search rules, known-none zero_word)

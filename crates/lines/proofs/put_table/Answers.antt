@@ -1,0 +1,39 @@
+-- `lines::put_table` meets its contract. The loop's invariant: the first i rows are written. Assumes nothing.
+use mathlib.Core.Path.{◌≡◌}
+use Prim.Native.Nat.{ℕ, ◌+◌, ◌-◌, ◌≤◌, ◌<◌}
+use native.Mathlib.Omega.{arith}
+use mathlib.Core.List.{List}
+use lib.Ieee.{Float}
+use Rattle.definitions.specs.Sheet.{place}
+use Rattle.definitions.specs.Dwell.{row_lines, table_lines}
+use Rattle.buffer.specs.Pasted.{Room, Written}
+use Rattle.buffer.proofs.Pasting.{length_written}
+use Rattle.buffer.proofs.Growing.{Turn, turn}
+use Rattle.lines.proofs.Lines.{table-begun, table_grows}
+use Rattle.lines.proofs.put_table.Goals as goal
+
+-- A turn writes one row more of the table.
+row-turn : (x : ℕ → ℕ → Float) (n : ℕ) {at i next : ℕ} {out after : List ℕ} → Room (table_lines x n n) at out → i < n → Written (table_lines x n i) at out after next
+    → Turn (row_lines x i n) (table_lines x n (i + 1)) at out next after
+row-turn x n room due so_far = turn (table_lines x n) (λ k. row_lines x k n) n (λ k h. table_grows x n k) room due so_far
+
+pub loop-i-init : goal.loop-i-init
+loop-i-init c =
+    (omega arith, table-begun (place c.args.n c.args.answer.now) c.args.n c.args.at c.args.out.now)
+
+pub put_row-next-requires : goal.put_row-next-requires
+put_row-next-requires c =
+    (
+      c.loop-i-test.true,
+      c.requires.0,
+      (row-turn (place c.args.n c.args.answer.now) c.args.n c.requires.1 c.loop-i-test.true c.loop-i.invariant.1).room,
+    )
+
+pub loop-i-preserved : goal.loop-i-preserved
+loop-i-preserved c =
+    (omega arith, (row-turn (place c.args.n c.args.answer.now) c.args.n c.requires.1 c.loop-i-test.true c.loop-i.invariant.1).written c.put_row-next.ensures)
+
+pub returns : goal.returns
+returns c =
+    let end : c.loop-i.i ≡ c.args.n = omega arith in
+    rw end at c.loop-i.invariant.1

@@ -1,0 +1,19 @@
+-- `lines::put_table` meets its contract. The loop's invariant: the first i rows are written. Assumes nothing.
+use mathlib.Core.Path.{◌≡◌}
+use Prim.Native.Nat.{ℕ, ◌+◌, ◌-◌, ◌≤◌, ◌<◌}
+use native.Mathlib.Omega.{arith}
+use mathlib.Core.List.{List}
+use lib.Ieee.{Float}
+use Rattle.definitions.specs.Sheet.{place}
+use Rattle.definitions.specs.Dwell.{row_lines, table_lines}
+use Rattle.buffer.specs.Pasted.{Room, Written}
+use Rattle.buffer.proofs.Pasting.{length_written}
+use Rattle.buffer.proofs.Growing.{Turn, turn}
+use Rattle.lines.proofs.Lines.{table-begun, table_grows}
+use Rattle.lines.proofs.put_table.Given as goal
+
+abbrev pub invariant-loop-i : goal.invariant-loop-i
+invariant-loop-i l = (l.i ≤ l.n) × Written (table_lines (place l.n l.answer) l.n l.i) l.at l.initial.out l.out l.next
+
+abbrev pub decreases-loop-i : goal.decreases-loop-i
+decreases-loop-i l = l.n - l.i

@@ -1,0 +1,9 @@
+-- `loading::load_row` meets its contract: the signs turned, then the diagonal. Assumes nothing.
+use borrow.Author.Rules.{rules}
+use Rattle.tables.specs.RowMajor.{table}
+use Rattle.loading.proofs.LoadedRows.{row_loaded}
+use Rattle.loading.proofs.load_row.Goals as goal
+
+pub returns : goal.returns
+returns c =
+    row_loaded c.args.n c.args.sheet.now c.args.i (table c.args.t.now) c.requires.1 c.negate_row.ensures c.put.ensures

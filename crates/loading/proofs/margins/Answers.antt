@@ -1,0 +1,23 @@
+-- `loading::margins` meets its contract: at stage i the stages before it are done. Assumes nothing.
+use mathlib.Core.Path.{refl}
+use Prim.Native.Nat.{◌≤◌, ◌-◌}
+use native.Mathlib.Omega.{arith}
+use borrow.Author.Rules.{rules}
+use Rattle.definitions.specs.Sheet.{diagonal}
+use Rattle.tables.specs.Vectors.{vector}
+use Rattle.tables.proofs.Vectors.{AlongVector, vector_begins, vector_turns, vector_ends}
+use Rattle.loading.proofs.LoadedRows.{as_diagonal}
+use Rattle.loading.proofs.margins.Goals as goal
+
+pub put-requires : goal.put-requires
+put-requires c = (omega (arith, c.requires.0.few), c.loop-i.invariant.1.holds.long)
+
+pub loop-i-preserved : goal.loop-i-preserved
+loop-i-preserved c =
+    (omega arith, vector_turns c.loop-i.invariant.1 c.put.ensures (as_diagonal c.args.n c.args.sheet.now c.loop-i.i c.loop-i-test.true c.number_at-x.ensures))
+
+pub returns : goal.returns
+returns c = vector_ends c.loop-i.invariant.1 (omega arith) (omega arith)
+
+pub loop-i-init : goal.loop-i-init
+loop-i-init c = (search rules, vector_begins refl c.requires.1)

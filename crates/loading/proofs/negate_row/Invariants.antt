@@ -1,0 +1,16 @@
+-- `loading::negate_row` meets its contract: at column j the columns before it are done. Assumes nothing.
+use mathlib.Core.Path.{refl}
+use Prim.Native.Nat.{◌≤◌, ◌-◌}
+use native.Mathlib.Omega.{arith}
+use borrow.Author.Rules.{rules}
+use Rattle.tables.specs.RowMajor.{table}
+use Rattle.tables.proofs.Loops.{Along, along_begins, along_turns, along_ends}
+use Rattle.loading.specs.LoadedTable.{negated}
+use Rattle.loading.proofs.LoadedRows.{as_negated}
+use Rattle.loading.proofs.negate_row.Given as goal
+
+abbrev pub invariant-loop-j : goal.invariant-loop-j
+invariant-loop-j l = (l.j ≤ l.n) × Along l.i 0 (negated l.n l.sheet l.i) (table l.initial.t) l.t l.j
+
+abbrev pub decreases-loop-j : goal.decreases-loop-j
+decreases-loop-j l = l.n - l.j

@@ -1,0 +1,18 @@
+-- `loading::rates` meets its contract: at row i the rows before it are done. Assumes nothing.
+use mathlib.Core.Path.{refl}
+use Prim.Native.Nat.{◌≤◌, ◌-◌}
+use native.Mathlib.Omega.{arith}
+use borrow.Author.Rules.{rules}
+use Rattle.definitions.specs.Sheet.{diagonal}
+use Rattle.tables.specs.RowMajor.{table}
+use Rattle.tables.specs.Operators.{replace}
+use Rattle.tables.proofs.Loops.{Down, down_begins, down_puts, down_ends}
+use Rattle.loading.specs.LoadedTable.{with_rates}
+use Rattle.loading.proofs.LoadedRows.{as_diagonal}
+use Rattle.loading.proofs.rates.Given as goal
+
+abbrev pub invariant-loop-i : goal.invariant-loop-i
+invariant-loop-i w = (w.i ≤ w.n) × Down 0 (λ l. replace l (diagonal w.n w.sheet l) (table w.initial.t l)) (table w.initial.t) w.t w.i
+
+abbrev pub decreases-loop-i : goal.decreases-loop-i
+decreases-loop-i l = l.n - l.i

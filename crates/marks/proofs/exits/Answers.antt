@@ -1,0 +1,43 @@
+-- `marks::exits` meets its contract. Assumes nothing.
+use mathlib.Core.Logic.{⊎_elim}
+use mathlib.Core.Path.{◌≡◌, refl, sym, ap, ◌∙◌}
+use mathlib.Core.Bool.{false}
+use Prim.Native.Nat.{ℕ, ◌≤◌, ◌<◌, ◌-◌, zero-le}
+use native.Mathlib.Omega.{arith}
+use borrow.Author.Rules.{rules}
+use mathlib.Core.List.{List}
+use lib.Ieee.{Float, binary64, of_bits, lt}
+use Rattle.definitions.specs.Numbers.{◌⊕◌}
+use Rattle.definitions.specs.Sheet.{place}
+use Rattle.definitions.specs.Questions.{leaves}
+use Rattle.rounding.proofs.Words.{zero_word}
+use Rattle.steps.proofs.Sizes.{diagonal-at}
+use Rattle.marks.specs.Marks.{Marked}
+use Rattle.exact.proofs.Bools.{contrary}
+use Rattle.marks.proofs.Marking.{before, none-marked, first_stage, last-stage, marked_few, at_stage, leave_stage, mark_stage}
+use Rattle.marks.proofs.exits.Goals as goal
+
+-- The exit of stage i, by the number at its place.
+exit_is : (n : ℕ) (sheet : List Float) (i : ℕ) {x : Float} → i < n → x ≡ place n sheet i i → lt (of_bits binary64 0) (x ⊕ of_bits binary64 0) ≡ leaves n sheet i
+unfolding leaves
+exit_is n sheet i l h = rw (zero_word, h, diagonal-at n sheet i l)
+
+pub loop-i-init : goal.loop-i-init
+loop-i-init c = (zero-le, first_stage _ _ (none-marked c.requires.few refl refl))
+
+pub overflow_add-next : goal.overflow_add-next
+overflow_add-next c = omega (arith, marked_few c.loop-i.invariant.1)
+
+pub loop-i-preserved : goal.loop-i-preserved
+loop-i-preserved c =
+    let l = c.loop-i-test.true in (
+      omega arith,
+      let exit = exit_is _ _ _ l c.number_at.ensures in
+          ⊎_elim
+          (λ w. mark_stage _ _ c.loop-i.invariant.1 l (omega arith) (at_stage _ _ c.loop-i.invariant.1 l) (sym exit ∙ w.0.true) (ap (λ m. m.marked) w.1) (ap (λ m. m.count) w.1))
+          (λ w. rw w.1 (leave_stage _ _ c.loop-i.invariant.1 l (λ t. absurd (contrary _ t (sym exit ∙ w.0.left)))))
+          c.if-number_at.branch,
+    )
+
+pub returns : goal.returns
+returns c = last-stage _ _ c.loop-i.invariant.0 c.loop-i-test.false c.loop-i.invariant.1

@@ -1,0 +1,56 @@
+-- `marks::mark_movers` meets its contract. Assumes nothing.
+use mathlib.Core.Logic.{⊎_elim}
+use mathlib.Core.Path.{◌≡◌, refl, sym, ap, ◌∙◌}
+use mathlib.Core.Bool.{true, not, ◌&&◌}
+use mathlib.Core.List.{List}
+use Prim.Native.Nat.{ℕ, ◌≤◌, ◌<◌, ◌-◌, zero-le}
+use native.Mathlib.Omega.{arith}
+use borrow.Author.Rules.{rules}
+use borrow.Author.Tests.{not-true, not-false, eq-eqb}
+use lib.Dec.{eqb}
+use lib.Ieee.{Float, binary64, of_bits, ne}
+use Rattle.definitions.specs.Numbers.{◌⊖◌, is_zero}
+use Rattle.definitions.specs.Sheet.{place}
+use Rattle.definitions.specs.Questions.{moves}
+use Rattle.marks.specs.Marks.{is_marked, Marked}
+use Rattle.exact.proofs.Bools.{contrary}
+use Rattle.exact.proofs.Cases.{by_equal}
+use Rattle.rounding.proofs.Words.{zero_word}
+use Rattle.steps.proofs.Sizes.{size-at}
+use Rattle.marks.proofs.Marking.{before, first_stage, last-stage, marked_few, leave_stage, mark_stage}
+use Rattle.marks.proofs.mark_movers.Goals as goal
+
+-- A move from stage i to stage j, by the number at its place.
+move_is :
+    (n : ℕ) (sheet : List Float) (i j : ℕ) {x : Float} → i < n → j < n → x ≡ place n sheet i j
+    → (not (eqb i j) && ne (of_bits binary64 0 ⊖ x) (of_bits binary64 0)) ≡ moves n sheet i j
+unfolding moves is_zero ne
+move_is n sheet i j l m h = rw (zero_word, h) (by_equal i j (λ e. rw (e, eq-eqb j j refl)) (λ d. rw (size-at n sheet i j l m d)))
+
+pub overflow_add-next : goal.overflow_add-next
+overflow_add-next c = omega (arith, marked_few c.loop-i.invariant.1)
+
+-- Stage i is marked already, or does not move to j.
+marked_or_still : (c : tie.Joined1 invariant-loop decreases-loop) →
+    let at = c.loop-i in
+    moves c.args.n c.args.sheet.now at.i c.args.j ≡ true → is_marked at.next at.i ≡ true
+marked_or_still c t =
+    let pre = c.requires in
+    ⊎_elim (λ w. absurd (contrary _ t (sym (move_is _ _ _ _ c.loop-i-test.true pre.1 w.1.ensures) ∙ w.2.left))) (λ w. not-false _ w.left) c.else-not-next-i.branch
+
+pub loop-i-preserved : goal.loop-i-preserved
+loop-i-preserved c =
+    let pre = c.requires in
+    let l = c.loop-i-test.true in (
+      omega arith,
+      ⊎_elim
+          (λ w. mark_stage _ _ c.loop-i.invariant.1 l (omega arith) (not-true _ w.0.true) (sym (move_is _ _ _ _ l pre.1 w.1.ensures) ∙ w.2.true) (ap (λ m. m.marked) w.3) (ap (λ m. m.count) w.3))
+          (λ w. rw w.1 (leave_stage _ _ c.loop-i.invariant.1 l (marked_or_still (record { before = c; if1 = w.0 }))))
+          c.if-not-next-i.branch,
+    )
+
+pub returns : goal.returns
+returns c = last-stage _ _ c.loop-i.invariant.0 c.loop-i-test.false c.loop-i.invariant.1
+
+pub loop-i-init : goal.loop-i-init
+loop-i-init c = (zero-le, first_stage _ _ c.requires.2)

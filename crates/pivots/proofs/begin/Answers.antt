@@ -1,0 +1,28 @@
+-- `pivots::begin` meets its contract. Assumes nothing.
+use mathlib.Core.Path.{◌∙◌}
+use native.Mathlib.Omega.{arith}
+use borrow.Author.Rules.{rules}
+use Rattle.rounding.proofs.ResultRange.{quotient_test}
+use Rattle.tables.specs.RowMajor.{table}
+use Rattle.pivots.proofs.Pivots.{plain_begun, weighed-begun}
+use Rattle.pivots.proofs.begin.Goals as goal
+
+pub returns-then-weights-eq0 : goal.returns-then-weights-eq0
+returns-then-weights-eq0 c =
+    plain_begun c.args.r c.args.k (table c.args.t.now) c.get-s.ensures c.args.weights.now (omega arith) c.later_sizes.ensures c.is_finite-ok.ensures
+
+pub later_products-sum-requires : goal.later_products-sum-requires
+later_products-sum-requires c =
+    let p = c.requires in
+    (p.0, p.1, p.2 (omega arith), p.3)
+
+pub bounds-weights-k : goal.bounds-weights-k
+bounds-weights-k c =
+    let p = c.requires in
+    let enough = p.2 (omega arith) in
+    omega arith
+
+pub returns : goal.returns
+returns c =
+    weighed-begun c.args.r c.args.k (table c.args.t.now) c.get-s.ensures c.args.weights.now (omega arith) c.later_products-sum.ensures.0 c.later_products-sum.ensures.1
+    (c.result_in_range-step.ensures ∙ quotient_test _ _)

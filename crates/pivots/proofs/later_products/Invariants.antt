@@ -1,0 +1,26 @@
+-- `pivots::later_products` meets its contract: at turn q the last q products are added and tested. Assumes nothing.
+use Prim.Native.Nat.{suc, ◌+◌, ◌-◌, ◌≤◌}
+use mathlib.Core.Path.{◌≡◌, refl, ap, ap₂, ◌∙◌}
+use native.Mathlib.Nat.{sub-zero}
+use native.Mathlib.Omega.{arith}
+use lib.ListN.{get_or}
+use lib.Ieee.{of_bits, nan}
+use borrow.Author.Rules.{rules}
+use Rattle.definitions.specs.Numbers.{◌⊗◌, 0·0, mul_in_range}
+use Rattle.definitions.specs.LeavingRates.{falling}
+use Rattle.rounding.proofs.ResultRange.{product_test}
+use Rattle.tables.specs.RowMajor.{table}
+use Rattle.steps.proofs.All.{all-falling}
+use Rattle.steps.proofs.Gathering.{Gathered, gathered_begins, gathered_turns, gathered_all, Summed, summed_begins, summed_turns, summed_ends}
+use Rattle.passes.proofs.Weights.{some_weights}
+use Rattle.pivots.proofs.later_products.Given as goal
+
+abbrev pub invariant-loop-q : goal.invariant-loop-q
+invariant-loop-q l =
+    (l.q-end ≡ l.r - suc l.k)
+    × (l.q ≤ l.q-end)
+    × Summed 0·0 (falling l.r (λ j. table l.t l.k j ⊗ get_or l.weights j nan)) 0 l.q l.sum
+    × Gathered (λ l.q. mul_in_range (table l.t l.k (l.r - suc l.q)) (get_or l.weights (l.r - suc l.q) nan)) 0 l.q l.ok
+
+abbrev pub decreases-loop-q : goal.decreases-loop-q
+decreases-loop-q l = l.q-end - l.q

@@ -1,0 +1,17 @@
+-- `places::number_in_row` meets its contract. Assumes nothing.
+use native.Mathlib.Omega.{arith}
+use borrow.Author.Rules.{rules}
+use Rattle.shape.proofs.Square.{row_inside, numbers_few}
+use Rattle.places.proofs.number_in_row.Goals as goal
+
+pub overflow_mul-result : goal.overflow_mul-result
+overflow_mul-result c = omega (arith, row_inside c.requires.0 c.requires.1 c.requires.2, numbers_few c.requires.0)
+
+pub overflow_add-result : goal.overflow_add-result
+overflow_add-result c = omega (arith, row_inside c.requires.0 c.requires.1 c.requires.2, numbers_few c.requires.0)
+
+pub offset_bounds-sheet-i : goal.offset_bounds-sheet-i
+offset_bounds-sheet-i c = omega (arith, row_inside c.requires.0 c.requires.1 c.requires.2, numbers_few c.requires.0)
+
+pub bounds-sheet-i : goal.bounds-sheet-i
+bounds-sheet-i c = row_inside c.requires.0 c.requires.1 c.requires.2

@@ -1,0 +1,37 @@
+-- `records::put_number` meets its contract. The loop's invariant: so many bytes are written, and the rest is the number without them. Assumes nothing.
+use Prim.Native.Nat.{ℕ, ◌+◌, ◌-◌, ◌/◌, ◌%◌, ◌≤◌, ◌<◌}
+use mathlib.Core.List.{List, [], ◌∷◌}
+use mathlib.Core.Path.{◌≡◌, ap, ◌∙◌}
+use native.Mathlib.Omega.{arith}
+use Rattle.definitions.specs.Saving.{little_bytes}
+use Rattle.buffer.specs.Pasted.{Room, Written}
+use Rattle.buffer.proofs.Pasting.{length_written}
+use Rattle.buffer.proofs.Growing.{Turn, turn}
+use Rattle.records.proofs.LittleBytes.{after, after_none, after-one_more, little-begun, little_grows}
+use Rattle.records.proofs.put_number.Goals as goal
+
+-- A turn writes one byte more of the number.
+byte_turn : (number width : ℕ) {rest at k next : ℕ} {out last : List ℕ} → Room (little_bytes width number) at out → k < width → rest ≡ after k number → Written (little_bytes k number) at out last next
+    → Turn (rest % 256 ∷ []) (little_bytes (k + 1) number) at out next last
+byte_turn number width room due left so_far =
+    rw left (turn (λ k. little_bytes k number) (λ k. after k number % 256 ∷ []) width (λ k h. little_grows number k) room due so_far)
+
+pub loop-done-init : goal.loop-done-init
+loop-done-init c = (omega arith, after_none _, little-begun _ _ _)
+
+pub put_byte-next-requires : goal.put_byte-next-requires
+put_byte-next-requires c =
+    (byte_turn c.args.number c.args.width c.requires c.loop-done-test.true c.loop-done.invariant.1 c.loop-done.invariant.2).room
+
+pub loop-done-preserved : goal.loop-done-preserved
+loop-done-preserved c =
+    let inv = c.loop-done.invariant in (
+      omega arith,
+      ap (λ m. m / 256) inv.1 ∙ after-one_more c.loop-done.done c.args.number,
+      (byte_turn c.args.number c.args.width c.requires c.loop-done-test.true inv.1 inv.2).written c.put_byte-next.ensures,
+    )
+
+pub returns : goal.returns
+returns c =
+    let all : c.loop-done.done ≡ c.args.width = omega arith in
+    rw all at c.loop-done.invariant.2

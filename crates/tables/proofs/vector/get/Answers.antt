@@ -1,0 +1,8 @@
+-- `tables::vector::get` meets its contract. Assumes nothing.
+use borrow.Author.Rules.{rules}
+use lib.Ieee.{nan}
+use Rattle.tables.proofs.Vectors.{read_vector}
+use Rattle.tables.proofs.vector.get.Goals as goal
+
+pub returns : goal.returns
+returns c = read_vector c.args.v.now c.requires.1 c.requires.0 nan

@@ -1,0 +1,7 @@
+-- `tables::vector::put` meets its contract. Assumes nothing.
+use borrow.Author.Rules.{rules}
+use Rattle.tables.proofs.Vectors.{write_vector}
+use Rattle.tables.proofs.vector.put.Goals as goal
+
+pub returns : goal.returns
+returns c = write_vector c.args.v.now c.requires.1 c.requires.0 c.args.x
