@@ -19,7 +19,7 @@ use Rattle.file_questions.proofs.Judging.{Judged, head_read, head_cut, head_bad,
 use mathlib.Core.Path.{ap}
 use mathlib.Core.Bool.{not}
 use Rattle.file_questions.proofs.judge.Goals as goal
-use Rattle.file_questions.proofs.judge.Goals.{At-loop-due, Else-at-bytes, Else-not-is_good_head, Else-not-is_whole, Else-not-is_whole-2}
+use Rattle.file_questions.proofs.judge.Goals.{Else-at-bytes, Else-not-is_good_head, Else-not-is_whole, Else-not-is_whole-2}
 
 pub returns-then-not-is_whole : goal.returns-then-not-is_whole
 returns-then-not-is_whole c =
@@ -76,110 +76,62 @@ loop-due-init c =
     judged_head c.args.bytes.now c.args.room c.field_at-reading.result c.field_at-n.result c.rows-rows.result c.record_end-at.result (whole_head (goal.at.loop-due-init c).Else-not-is_whole) (good_head_lem (goal.at.loop-due-init c).Else-not-is_good_head) c.field_at-reading.ensures c.field_at-n.ensures c.rows-rows.ensures c.record_end-at.ensures
 
 -- The file and the room, and the questions left, seen from the loop.
-abbrev bytes_of : goal.At-loop-due → List ℕ
-bytes_of c = c.args.bytes.now
-
-abbrev room_of : goal.At-loop-due → ℕ
-room_of c = c.args.room
-
-abbrev reading_of : goal.At-loop-due → ℕ
-reading_of c = c.field_at-reading.result
-
-abbrev stages_of : goal.At-loop-due → ℕ
-stages_of c = c.field_at-n.result
-
-abbrev rows_of : goal.At-loop-due → ℕ
-rows_of c = c.rows-rows.result
-
-abbrev places_of : goal.At-loop-due → ℕ
-places_of c = sheet_numbers (reading_of c) (stages_of c)
 
 pub returns-then-not-is_whole-2 : goal.returns-then-not-is_whole-2
 returns-then-not-is_whole-2 c =
-    let w = (goal.at.returns-then-not-is_whole-2 c).At-loop-due in
     let test = c.is_whole-in-loop-due in
-    let cut = denied test.result (whole_record (drop c.loop-due.at (bytes_of w))) test.ensures (ap not c.if-not-is_whole-2.true) in
-    refused_by (bytes_of w) (room_of w) 11 c.loop-due.due c.refused-then-not-is_whole-2.result c.refused-then-not-is_whole-2.ensures
-    (c.loop-due.invariant.left ∙ record_cut (bytes_of w) (room_of w) (stages_of w) (rows_of w) (places_of w) c.loop-due.at c.loop-due.due c.loop-due-test.true cut)
+    let cut = denied test.result (whole_record (drop c.loop-due.at c.args.bytes.now)) test.ensures (ap not c.if-not-is_whole-2.true) in
+    refused_by c.args.bytes.now c.args.room 11 c.loop-due.due c.refused-then-not-is_whole-2.result c.refused-then-not-is_whole-2.ensures
+    (c.loop-due.invariant.left ∙ record_cut c.args.bytes.now c.args.room c.field_at-n.result c.rows-rows.result (sheet_numbers c.field_at-reading.result c.field_at-n.result) c.loop-due.at c.loop-due.due c.loop-due-test.true cut)
 
-abbrev bytes_of_1 : goal.Else-not-is_whole-2 → List ℕ
-bytes_of_1 c = c.args.bytes.now
-
-whole_record_lem : (c : goal.Else-not-is_whole-2) → whole_record (drop c.loop-due.at (bytes_of_1 c)) ≡ true
+whole_record_lem : (c : goal.Else-not-is_whole-2) → whole_record (drop c.loop-due.at c.args.bytes.now) ≡ true
 whole_record_lem c =
-    granted c.is_whole-in-loop-due.result (whole_record (drop c.loop-due.at (bytes_of_1 c))) c.is_whole-in-loop-due.ensures (ap not c.if-not-is_whole-2.false)
+    granted c.is_whole-in-loop-due.result (whole_record (drop c.loop-due.at c.args.bytes.now)) c.is_whole-in-loop-due.ensures (ap not c.if-not-is_whole-2.false)
 
 pub is_good_record-requires : goal.is_good_record-requires
 is_good_record-requires c =
-    (whole_room (bytes_of (goal.at.is_good_record-requires c).At-loop-due) c.loop-due.at (whole_record_lem c), c.loop-due.invariant.few)
+    (whole_room c.args.bytes.now c.loop-due.at (whole_record_lem c), c.loop-due.invariant.few)
 
 pub returns-then-not-is_good_record : goal.returns-then-not-is_good_record
 returns-then-not-is_good_record c =
-    let at-record = c in
-    let l = at-record in
     let test = c.is_good_record in
-    let bad = denied test.result (good_record (stages_of l) l.loop.due (drop l.loop.at (bytes_of l))) test.ensures (ap not c.if-not-is_good_record.true) in
-    refused_by (bytes_of l) (room_of l) 13 l.loop.due c.refused-then-not-is_good_record.result c.refused-then-not-is_good_record.ensures
-    (l.loop.invariant.left ∙ record_bad (bytes_of l) (room_of l) (stages_of l) (rows_of l) (places_of l) l.loop.at l.loop.due at-record.loop-test.true (whole_record_lem at-record) bad)
+    let bad = denied test.result (good_record c.field_at-n.result c.loop-due.due (drop c.loop-due.at c.args.bytes.now)) test.ensures (ap not c.if-not-is_good_record.true) in
+    refused_by c.args.bytes.now c.args.room 13 c.loop-due.due c.refused-then-not-is_good_record.result c.refused-then-not-is_good_record.ensures
+    (c.loop-due.invariant.left ∙ record_bad c.args.bytes.now c.args.room c.field_at-n.result c.rows-rows.result (sheet_numbers c.field_at-reading.result c.field_at-n.result) c.loop-due.at c.loop-due.due c.loop-due-test.true (whole_record_lem (goal.at.returns-then-not-is_good_record c).Else-not-is_whole-2) bad)
 
 pub record_end-at-requires-in-loop-due : goal.record_end-at-requires-in-loop-due
 record_end-at-requires-in-loop-due c =
-    let at-record = c in
-    let l = at-record in
-    whole_room (bytes_of l) l.loop.at (whole_record_lem at-record)
+    whole_room c.args.bytes.now c.loop-due.at (whole_record_lem (goal.at.record_end-at-requires-in-loop-due c).Else-not-is_whole-2)
 
 pub loop-due-preserved : goal.loop-due-preserved
 loop-due-preserved c =
-    let at-record = c in
-    let l = at-record in
     let test = c.is_good_record in
-    let good = granted test.result (good_record (stages_of l) l.loop.due (drop l.loop.at (bytes_of l))) test.ensures (ap not c.if-not-is_good_record.false) in
+    let good = granted test.result (good_record c.field_at-n.result c.loop-due.due (drop c.loop-due.at c.args.bytes.now)) test.ensures (ap not c.if-not-is_good_record.false) in
     rw c.record_end-at-in-loop-due.ensures
-    (judged_record (bytes_of l) (room_of l) (reading_of l) (stages_of l) (rows_of l) l.loop.at l.loop.due l.loop.invariant at-record.loop-test.true (whole_record_lem at-record) good)
+    (judged_record c.args.bytes.now c.args.room c.field_at-reading.result c.field_at-n.result c.rows-rows.result c.loop-due.at c.loop-due.due c.loop-due.invariant c.loop-due-test.true (whole_record_lem (goal.at.loop-due-preserved c).Else-not-is_whole-2) good)
 
 pub returns-then-at-bytes : goal.returns-then-at-bytes
 returns-then-at-bytes c =
-    let w = (goal.at.returns-then-at-bytes c).At-loop-due in
-    refused_by (bytes_of w) (room_of w) 14 0 c.refused-then-at-bytes.result c.refused-then-at-bytes.ensures
-    (c.loop-due.invariant.left ∙ bytes_after (bytes_of w) (room_of w) (stages_of w) (rows_of w) (places_of w) c.loop-due.at c.loop-due.due c.loop-due-test.false c.loop-due.invariant.inside c.if-at-bytes.true)
-
-abbrev bytes_of_2 : goal.Else-at-bytes → List ℕ
-bytes_of_2 c = c.args.bytes.now
-
-abbrev room_of_1 : goal.Else-at-bytes → ℕ
-room_of_1 c = c.args.room
-
-abbrev stages_of_1 : goal.Else-at-bytes → ℕ
-stages_of_1 c = c.field_at-n.result
-
-abbrev rows_of_1 : goal.Else-at-bytes → ℕ
-rows_of_1 c = c.rows-rows.result
-
-abbrev reading_of_1 : goal.Else-at-bytes → ℕ
-reading_of_1 c = c.field_at-reading.result
-
-abbrev places_of_1 : goal.Else-at-bytes → ℕ
-places_of_1 c = sheet_numbers (reading_of_1 c) (stages_of_1 c)
+    refused_by c.args.bytes.now c.args.room 14 0 c.refused-then-at-bytes.result c.refused-then-at-bytes.ensures
+    (c.loop-due.invariant.left ∙ bytes_after c.args.bytes.now c.args.room c.field_at-n.result c.rows-rows.result (sheet_numbers c.field_at-reading.result c.field_at-n.result) c.loop-due.at c.loop-due.due c.loop-due-test.false c.loop-due.invariant.inside c.if-at-bytes.true)
 
 -- After the last record only question 4 is left, of as many places as the code counted.
-records_done : (c : goal.Else-at-bytes) → file_questions (bytes_of_2 c) (room_of_1 c) ≡ question4 c.numbers-places.result (room_of_1 c)
+records_done : (c : goal.Else-at-bytes) → file_questions c.args.bytes.now c.args.room ≡ question4 c.numbers-places.result c.args.room
 records_done c =
     rw c.numbers-places.ensures
-    (c.loop-due.invariant.left ∙ at_end (bytes_of_2 c) (room_of_1 c) (stages_of_1 c) (rows_of_1 c) (places_of_1 c) c.loop-due.at c.loop-due.due c.loop-due-test.false c.if-at-bytes.false)
+    (c.loop-due.invariant.left ∙ at_end c.args.bytes.now c.args.room c.field_at-n.result c.rows-rows.result (sheet_numbers c.field_at-reading.result c.field_at-n.result) c.loop-due.at c.loop-due.due c.loop-due-test.false c.if-at-bytes.false)
 
 pub returns-then-room-places : goal.returns-then-room-places
 returns-then-room-places c =
-    let w = (goal.at.returns-then-room-places c).At-loop-due in
-    refused_by (bytes_of w) (room_of w) 4 0 c.refused-then-room-places.result c.refused-then-room-places.ensures
-    (records_done (goal.at.returns-then-room-places c).Else-at-bytes ∙ room_short _ (room_of w) c.if-room-places.true)
+    refused_by c.args.bytes.now c.args.room 4 0 c.refused-then-room-places.result c.refused-then-room-places.ensures
+    (records_done (goal.at.returns-then-room-places c).Else-at-bytes ∙ room_short _ c.args.room c.if-room-places.true)
 
 -- The unit is handed over by its bits, which mean it.
 pub returns : goal.returns
 returns c =
-    let w = (goal.at.returns c).At-loop-due in
     let unit = c.unit_of-e in
-    given_by (bytes_of w) (room_of w) (reading_of w) (stages_of w) (to_z w64 (of_z w64 unit.result)) c.loop-due.invariant.kind c.loop-due.invariant.stages (to_z-of_z w64 unit.result (record { sfits = unit.type_inv }) ∙ unit.ensures)
-    (records_done (goal.at.returns c).Else-at-bytes ∙ room_enough _ (room_of w) c.if-room-places.false)
+    given_by c.args.bytes.now c.args.room c.field_at-reading.result c.field_at-n.result (to_z w64 (of_z w64 unit.result)) c.loop-due.invariant.kind c.loop-due.invariant.stages (to_z-of_z w64 unit.result (record { sfits = unit.type_inv }) ∙ unit.ensures)
+    (records_done (goal.at.returns c).Else-at-bytes ∙ room_enough _ c.args.room c.if-room-places.false)
 
 pub field_at-reading-requires : goal.field_at-reading-requires
 field_at-reading-requires c = omega (arith, head_held c)

@@ -65,10 +65,10 @@ pub overflow_mul-j : goal.overflow_mul-j
 overflow_mul-j c = omega (arith, wide_enough (goal.at.overflow_mul-j c).After-reach-width)
 
 pub turn-first-requires : goal.turn-first-requires
-turn-first-requires c = (omega (arith, within c, c.requires.0), c.requires.1)
+turn-first-requires c = (omega (arith, within (goal.at.turn-first-requires c).After-skipped-from, c.requires.0), c.requires.1)
 
 pub overflow_sub-s : goal.overflow_sub-s
-overflow_sub-s c = within c
+overflow_sub-s c = within (goal.at.overflow_sub-s c).After-skipped-from
 
 pub loop-block-smaller : goal.loop-block-smaller
 loop-block-smaller c = omega (arith, wide_enough (goal.at.loop-block-smaller c).After-reach-width)
