@@ -1,5 +1,7 @@
 // Reading a sheet file into a lent area, of 64-bit words or of f64, and saving a sheet of either as a file in
 // lent bytes. All questions are asked before the first place is written.
+#![tactic(auto)]
+
 ghost use Rattle.std.specs.Prelude.{◌≡◌, cond, suc, ltb, length};
 ghost use Rattle.definitions.specs.Services.{refused};
 ghost use Rattle.definitions.specs.File.{longest_file, file_answer, file_word_area, file_number_area};

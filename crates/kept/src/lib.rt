@@ -1,5 +1,7 @@
 // The system of the kept stages in compact order: the new sizes off the diagonal, the new leaving rates on
 // it (document 01, "Steps for margins").
+#![tactic(auto)]
+
 ghost use Rattle.std.specs.Prelude.{◌≤◌, ◌<◌};
 ghost use Rattle.tables.specs.RowMajor.{IsTable, table};
 ghost use Rattle.tables.specs.Vectors.{IsVector, vector};

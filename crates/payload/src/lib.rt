@@ -1,4 +1,6 @@
 // The words of the records in a sheet file that is accepted, rows and weights, written into a lent area.
+#![tactic(auto)]
+
 ghost use Rattle.std.specs.Prelude.{◌≡◌, ◌+◌, ◌≤◌, ◌<◌, length, get_or};
 ghost use Rattle.definitions.specs.Sheet.{sheet_numbers};
 ghost use Rattle.definitions.specs.File.{record_length, head_reading, file_words, file_numbers};

@@ -3,6 +3,8 @@
 // finite shows there. A product is tested by a bound of the numbers that it multiplies; where that is
 // too small, the row's products are tested one by one. What a public test says where a result that it
 // does not look at is not finite is left open (`Told`).
+#![tactic(auto)]
+
 ghost use Rattle.std.specs.Prelude.{◌≡◌, ◌-◌, ◌≤◌, ◌<◌};
 ghost use Rattle.std.specs.Float.Ieee.{lt};
 ghost use Rattle.definitions.specs.Numbers.{◌⊗◌, ◌⊘◌, smallest, all};

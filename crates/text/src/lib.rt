@@ -1,5 +1,7 @@
 // The text that dwell prints, at the start of a lent buffer of bytes; later bytes stay as they were
 // (document 01, "The sheet file").
+#![tactic(auto)]
+
 ghost use Rattle.std.specs.Prelude.{◌++◌, ◌*◌, ◌≤◌, length};
 ghost use Rattle.definitions.specs.Sheet.{place};
 ghost use Rattle.definitions.specs.Dwell.{seconds_line, table_lines};

@@ -13,15 +13,16 @@ use Rattle.compact.specs.Listing.{marked}
 use Rattle.joins.specs.StageJoin.{knows, KnownSum}
 use Rattle.joins.proofs.ColumnSteps.{known-none, known_adds, known_skips, known-all}
 use Rattle.joins.proofs.column_sum.Goals as goal
+use Rattle.joins.proofs.column_sum.Goals.{then-is_known, else-is_known}
 
 pub loop-l-preserved : goal.loop-l-preserved
 loop-l-preserved c =
     let h = c.loop-l.invariant.1 in (
       omega arith,
-      ⊎_elim
-          (λ v. rw (v.4, v.5) (known_adds h (sym c.is_Known.ensures ∙ v.0.true) (ap₂ ◌⊗◌ v.1.ensures v.2.ensures) (v.3.ensures ∙ product_test v.1.result v.2.result ∙ ap₂ mul_in_range v.1.ensures v.2.ensures)))
-          (λ v. rw (v.1, v.2) (known_skips h (sym c.is_Known.ensures ∙ v.0.left)))
-          c.if-is_known.branch,
+      elim c.if-is_known.branch [
+        then-is_known v ↦ rw (v.sum-is, v.ok-is) (known_adds h (sym c.is_known.ensures ∙ v.if-is_known.true) (ap₂ ◌⊗◌ v.get-y.ensures v.get-z.ensures) (v.result_in_range-step.ensures ∙ product_test v.get-y.result v.get-z.result ∙ ap₂ mul_in_range v.get-y.ensures v.get-z.ensures))
+      | else-is_known v ↦ rw (v.sum-is, v.ok-is) (known_skips h (sym c.is_known.ensures ∙ v.if-is_known.false))
+      ],
     )
 
 pub returns : goal.returns

@@ -22,7 +22,7 @@ loop-l-preserved c =
     let p = c.args.p in (
       omega arith,
       vector_turns c.loop-l.invariant.1 c.put.ensures (ap (λ x. x ⊘ p) c.get-x.ensures),
-      gathered_turns c.loop-l.invariant.2 (ap₂ (λ a b. not a || b) c.is_Known.ensures (c.result_in_range-step.ensures ∙ quotient_test c.get-x.result p ∙ ap (λ x. div_in_range x p) c.get-x.ensures)),
+      gathered_turns c.loop-l.invariant.2 (ap₂ (λ a b. not a || b) c.is_known-known.ensures (c.result_in_range-step.ensures ∙ quotient_test c.get-x.result p ∙ ap (λ x. div_in_range x p) c.get-x.ensures)),
     )
 
 pub returns : goal.returns

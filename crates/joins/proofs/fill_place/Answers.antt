@@ -10,8 +10,8 @@ use Rattle.joins.proofs.fill_place.Goals as goal
 
 pub returns-then-is_known : goal.returns-then-is_known
 returns-then-is_known c =
-    place-filled c.args.n c.args.c (knows c.args.c (marked c.args.kept.now)) (vector c.args.w.now) c.args.i (table c.args.x.now) (sym c.is_Known.ensures ∙ c.if-is_known.true) c.column_sum-sum.ensures c.put.ensures c.is_finite-finite.ensures
+    place-filled c.args.n c.args.c (knows c.args.c (marked c.args.kept.now)) (vector c.args.w.now) c.args.i (table c.args.x.now) (sym c.is_known.ensures ∙ c.if-is_known.true) c.column_sum-sum.ensures c.put.ensures c.is_finite-finite.ensures
 
 pub returns : goal.returns
 returns c =
-    place-left c.args.n c.args.c (knows c.args.c (marked c.args.kept.now)) (vector c.args.w.now) c.args.i (table c.args.x.now) (sym c.is_Known.ensures ∙ c.if-is_known.false) c.requires.5 refl
+    place-left c.args.n c.args.c (knows c.args.c (marked c.args.kept.now)) (vector c.args.w.now) c.args.i (table c.args.x.now) (sym c.is_known.ensures ∙ c.if-is_known.false) c.requires.5 refl

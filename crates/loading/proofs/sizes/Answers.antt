@@ -12,7 +12,7 @@ use Rattle.loading.proofs.sizes.Goals as goal
 
 pub loop-i-preserved : goal.loop-i-preserved
 loop-i-preserved c =
-    (omega arith, down_spans 0 c.args.n (size c.args.n c.args.sheet.now) (table c.args.t.now) c.loop-i.invariant.1 c.Load-row.ensures)
+    (omega arith, down_spans 0 c.args.n (size c.args.n c.args.sheet.now) (table c.args.t.now) c.loop-i.invariant.1 c.load_row.ensures)
 
 pub returns : goal.returns
 unfolding with_sizes

@@ -16,6 +16,7 @@ use Rattle.marks.specs.Marks.{Marked}
 use Rattle.exact.proofs.Bools.{contrary}
 use Rattle.marks.proofs.Marking.{before, none-marked, first_stage, last-stage, marked_few, at_stage, leave_stage, mark_stage}
 use Rattle.marks.proofs.exits.Goals as goal
+use Rattle.marks.proofs.exits.Goals.{then-number_at, else-number_at}
 
 -- The exit of stage i, by the number at its place.
 exit_is : (n : ℕ) (sheet : List Float) (i : ℕ) {x : Float} → i < n → x ≡ place n sheet i i → lt (of_bits binary64 0) (x ⊕ of_bits binary64 0) ≡ leaves n sheet i
@@ -33,10 +34,10 @@ loop-i-preserved c =
     let l = c.loop-i-test.true in (
       omega arith,
       let exit = exit_is _ _ _ l c.number_at.ensures in
-          ⊎_elim
-          (λ w. mark_stage _ _ c.loop-i.invariant.1 l (omega arith) (at_stage _ _ c.loop-i.invariant.1 l) (sym exit ∙ w.0.true) (ap (λ m. m.marked) w.1) (ap (λ m. m.count) w.1))
-          (λ w. rw w.1 (leave_stage _ _ c.loop-i.invariant.1 l (λ t. absurd (contrary _ t (sym exit ∙ w.0.left)))))
-          c.if-number_at.branch,
+      elim c.if-number_at.branch [
+        then-number_at w ↦ mark_stage _ _ c.loop-i.invariant.1 l (omega arith) (at_stage _ _ c.loop-i.invariant.1 l) (sym exit ∙ w.if-number_at.true) (ap (λ m. m.marked) w.next-is) (ap (λ m. m.count) w.next-is)
+      | else-number_at w ↦ rw w.next-is (leave_stage _ _ c.loop-i.invariant.1 l (λ t. absurd (contrary _ t (sym exit ∙ w.if-number_at.false))))
+      ],
     )
 
 pub returns : goal.returns

@@ -19,6 +19,7 @@ use Rattle.rounding.proofs.Words.{zero_word}
 use Rattle.steps.proofs.Sizes.{size-at}
 use Rattle.marks.proofs.Marking.{before, first_stage, last-stage, marked_few, leave_stage, mark_stage}
 use Rattle.marks.proofs.mark_movers.Goals as goal
+use Rattle.marks.proofs.mark_movers.Goals.{then-not-next-i+then-i-j, else-not-next-i, else-not-next-i-via-then-not-next-i+else-i-j, else-not-next-i-via-else-not-next-i}
 
 -- A move from stage i to stage j, by the number at its place.
 move_is :
@@ -30,23 +31,21 @@ move_is n sheet i j l m h = rw (zero_word, h) (by_equal i j (λ e. rw (e, eq-eqb
 pub overflow_add-next : goal.overflow_add-next
 overflow_add-next c = omega (arith, marked_few c.loop-i.invariant.1)
 
--- Stage i is marked already, or does not move to j.
-marked_or_still : (c : tie.Joined1 invariant-loop decreases-loop) →
-    let at = c.loop-i in
-    moves c.args.n c.args.sheet.now at.i c.args.j ≡ true → is_marked at.next at.i ≡ true
-marked_or_still c t =
-    let pre = c.requires in
-    ⊎_elim (λ w. absurd (contrary _ t (sym (move_is _ _ _ _ c.loop-i-test.true pre.1 w.1.ensures) ∙ w.2.left))) (λ w. not-false _ w.left) c.else-not-next-i.branch
-
 pub loop-i-preserved : goal.loop-i-preserved
 loop-i-preserved c =
     let pre = c.requires in
     let l = c.loop-i-test.true in (
       omega arith,
-      ⊎_elim
-          (λ w. mark_stage _ _ c.loop-i.invariant.1 l (omega arith) (not-true _ w.0.true) (sym (move_is _ _ _ _ l pre.1 w.1.ensures) ∙ w.2.true) (ap (λ m. m.marked) w.3) (ap (λ m. m.count) w.3))
-          (λ w. rw w.1 (leave_stage _ _ c.loop-i.invariant.1 l (marked_or_still (record { before = c; if1 = w.0 }))))
-          c.if-not-next-i.branch,
+      elim c.if-not-next-i.branch [
+        then-not-next-i+then-i-j w ↦ mark_stage _ _ c.loop-i.invariant.1 l (omega arith) (not-true _ (ap not w.if-not-next-i.true)) (sym (move_is _ _ _ _ l pre.1 w.number_at.ensures) ∙ w.if-i-j.true) (ap (λ m. m.marked) w.next-is) (ap (λ m. m.count) w.next-is)
+      | else-not-next-i w ↦
+          -- stage i is marked already, or does not move to j
+          rw w.next-is (leave_stage _ _ c.loop-i.invariant.1 l (λ t.
+              elim w.else-not-next-i.branch [
+                else-not-next-i-via-then-not-next-i+else-i-j v ↦ absurd (contrary _ t (sym (move_is _ _ _ _ l pre.1 v.number_at.ensures) ∙ v.if-i-j.false))
+              | else-not-next-i-via-else-not-next-i v ↦ not-false _ (ap not v.if-not-next-i.false)
+              ]))
+      ],
     )
 
 pub returns : goal.returns

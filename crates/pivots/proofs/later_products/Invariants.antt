@@ -20,7 +20,7 @@ invariant-loop-q l =
     (l.q-end ≡ l.r - suc l.k)
     × (l.q ≤ l.q-end)
     × Summed 0·0 (falling l.r (λ j. table l.t l.k j ⊗ get_or l.weights j nan)) 0 l.q l.sum
-    × Gathered (λ l.q. mul_in_range (table l.t l.k (l.r - suc l.q)) (get_or l.weights (l.r - suc l.q) nan)) 0 l.q l.ok
+    × Gathered (λ p. mul_in_range (table l.t l.k (l.r - suc p)) (get_or l.weights (l.r - suc p) nan)) 0 l.q l.ok
 
 abbrev pub decreases-loop-q : goal.decreases-loop-q
 decreases-loop-q l = l.q-end - l.q

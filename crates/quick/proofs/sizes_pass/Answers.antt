@@ -19,9 +19,8 @@ inside c = stretch_inside c.requires c.loop-i.invariant.0 c.loop-i-test.true
 
 pub loop-i-preserved : goal.loop-i-preserved
 loop-i-preserved c =
-    let in-loop = c in
-    let h = inside in-loop in
-    (omega arith, below_more _ _ in-loop.loop.invariant.1 (stretch_passes _ _ _ h.0 h.1 (c.stretch_passes.ensures (holds (not-false c.stretch_passes.result (ap not c.if-not-stretch_passes.false))))))
+    let h = inside (goal.at.loop-i-preserved c).In-loop-i in
+    (omega arith, below_more _ _ c.loop-i.invariant.1 (stretch_passes _ _ _ h.0 h.1 (c.stretch_passes.ensures (holds (not-false c.stretch_passes.result (ap not c.if-not-stretch_passes.false))))))
 
 pub loop-i-init : goal.loop-i-init
 loop-i-init c = (omega arith, below_more _ 0 (below_none _) none_before)

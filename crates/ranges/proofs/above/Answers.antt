@@ -3,11 +3,7 @@ use mathlib.Core.Path.{ap}
 use lib.Ieee.{Float, lt}
 use Rattle.definitions.specs.Numbers.{◌⊗◌}
 use Rattle.rounding.proofs.Words.{smallest-word}
-use Rattle.ranges.proofs.above.Statement.{statement}
-use Rattle.ranges.proofs.above.Tie as tie
+use Rattle.ranges.proofs.above.Goals as goal
 
-returns : tie.Need-returns
+pub returns : goal.returns
 returns c = ap (λ (s : Float). lt s (c.args.m ⊗ c.args.lo)) smallest-word
-
-pub above-spec : {M : Type 1} → statement M
-above-spec = tie.close (tie.spec returns)

@@ -1,0 +1,21 @@
+-- `kept::system_rows` meets its contract: at place p the rows before it are done and tested. Assumes nothing.
+use mathlib.Core.Path.{refl, ap, ◌∙◌}
+use Prim.Native.Nat.{◌≤◌, ◌-◌}
+use native.Mathlib.Nat.{le_refl}
+use native.Mathlib.Omega.{arith}
+use borrow.Author.Rules.{rules}
+use Rattle.steps.proofs.Gathering.{Gathered, gathered_begins, gathered_turns, gathered_all}
+use Rattle.tables.specs.RowMajor.{table}
+use Rattle.tables.specs.Vectors.{vector}
+use Rattle.tables.proofs.Loops.{Down, down_begins, down_due, down_turns, down_ends}
+use Rattle.kept.specs.Scaled.{scaled_row, scaled_row_in_range}
+use Rattle.kept.proofs.system_rows.Given as goal
+
+abbrev pub invariant-loop-p : goal.invariant-loop-p
+invariant-loop-p l =
+    (l.p ≤ l.r)
+    × Down 0 (λ o. scaled_row l.n l.r l.stages (table l.t) (vector l.k) (vector l.w) o (table l.initial.s o)) (table l.initial.s) l.s l.p
+    × Gathered (λ o. scaled_row_in_range l.n l.r l.stages (table l.t) (vector l.k) (vector l.w) o (table l.initial.s o)) 0 l.p l.ok
+
+abbrev pub decreases-loop-p : goal.decreases-loop-p
+decreases-loop-p l = l.r - l.p

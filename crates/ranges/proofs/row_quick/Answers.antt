@@ -1,0 +1,23 @@
+-- `ranges::row_quick` meets its contract: at column k the multipliers before it are tested. Assumes nothing.
+use mathlib.Core.Path.{refl}
+use Prim.Native.Nat.{ℕ, ◌≤◌, ◌<◌, ◌-◌}
+use native.Mathlib.Omega.{arith}
+use lib.Dec.{T}
+use lib.Ieee.{binary64, fits}
+use borrow.Author.Count.{below_more}
+use borrow.Author.Rules.{rules}
+use Rattle.tables.specs.RowMajor.{table}
+use Rattle.ranges.specs.Quick.{quick_at}
+use Rattle.steps.proofs.Gathering.{Gathered, gathered_begins, gathered_turns, gathered_ends}
+use Rattle.ranges.proofs.Multiples.{quick_at_lem}
+use Rattle.ranges.proofs.row_quick.Goals as goal
+
+pub loop-k-init : goal.loop-k-init
+loop-k-init c = (search rules, gathered_begins refl, λ a l m. let z : ⊥ = omega arith in absurd z)
+
+pub loop-k-preserved : goal.loop-k-preserved
+loop-k-preserved c =
+    (omega arith, gathered_turns c.loop-k.invariant.1 (quick_at_lem (table c.args.t.now c.args.i) c.loop-k.k c.get-m.ensures c.quick-step.ensures), below_more _ _ c.loop-k.invariant.2 (λ _. rw c.get-m.ensures at c.quick-step.ensures.held))
+
+pub returns : goal.returns
+returns c = let v = c.loop-k.invariant in record { is = gathered_ends v.1 (omega arith) (omega arith); held = λ k l m. v.2 k (omega arith) l }
