@@ -4,6 +4,8 @@
 //
 // The stages come one after another, as document 01 has them. A product is tested where it is made; that every
 // result is finite shows in the answers, since a finite sum has finite parts.
+#![tactic(auto)]
+
 ghost use Rattle.std.specs.Prelude.{◌≡◌, ◌≤◌, ◌<◌};
 ghost use Rattle.tables.specs.RowMajor.{IsTable, table};
 ghost use Rattle.tables.specs.Vectors.{IsVector, vector, ZeroVector};

@@ -4,6 +4,8 @@
 // Document 01 takes the stages one after another; here the rows take turns, and each number gets the same
 // steps in the same order. Downward the rows rise and row k has nothing right of column k, upward they
 // fall. Places of b outside r × r are left open: blocks of eight columns run over them.
+#![tactic(auto)]
+
 ghost use Rattle.std.specs.Prelude.{◌≡◌, ◌≤◌, ◌<◌};
 ghost use Rattle.definitions.specs.Numbers.{all};
 ghost use Rattle.tables.specs.RowMajor.{IsTable, ZeroTable, table, Holds, Gives};

@@ -1,5 +1,7 @@
 // The steps that serve every column of b, on the weights and the table t of sizes and leaving rates: every stage, and
 // then the upward multipliers in the place of the sizes after the diagonal.
+#![tactic(auto)]
+
 ghost use Rattle.std.specs.Prelude.{◌≡◌, ℕ, suc, ◌≤◌, ◌<◌};
 ghost use Rattle.definitions.specs.Numbers.{all};
 ghost use Rattle.tables.specs.RowMajor.{IsTable, table, Gives};

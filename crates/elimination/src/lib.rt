@@ -3,6 +3,8 @@
 // numbers.
 //
 // The working tables are 1,024 numbers, 32 to a row, whatever r is.
+#![tactic(auto)]
+
 ghost use Rattle.std.specs.Prelude.{◌≤◌};
 ghost use Rattle.tables.specs.RowMajor.{IsTable, ZeroTable, table};
 ghost use Rattle.passes.specs.Weights.{weights_in, Enough};

@@ -1,4 +1,6 @@
 // Reading and saving a sheet file with out places (`out_places`), as programs in C call it.
+#![tactic(auto)]
+
 ghost use Rattle.definitions.specs.File.{file_number_area, file_word_area};
 ghost use Rattle.definitions.specs.Saving.{saved_numbers, saved_words};
 ghost use Rattle.file_calls.specs.FileCalls.{FileCall, SaveCall};

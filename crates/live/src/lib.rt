@@ -1,4 +1,6 @@
 // The stages of a sheet of reading 1 that take part in its steps, as a system of their own (document 02, U3).
+#![tactic(auto)]
+
 ghost use Rattle.std.specs.Prelude.{◌≡◌, length};
 ghost use Rattle.definitions.specs.Sheet.{takes_part};
 ghost use Rattle.tables.specs.RowMajor.{IsTable};

@@ -1,5 +1,7 @@
 // The steps for margins on n stages, n at most 32 (document 01): the whole table of seconds of every
 // sheet, number for number, and whether every step is in range. Nothing is asked of the numbers.
+#![tactic(auto)]
+
 ghost use Rattle.std.specs.Prelude.{◌≤◌};
 ghost use Rattle.tables.specs.RowMajor.{IsTable, table};
 ghost use Rattle.tables.specs.Vectors.{IsVector, vector};

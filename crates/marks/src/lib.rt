@@ -9,7 +9,7 @@ ghost use Rattle.marks.specs.Marks.{is_marked, Marked, Counted};
 
 use shape::number_at;
 
-#[derive(Drop)]
+#[derive(Clone, Copy)]
 pub struct Marks {
     pub marked: [bool; 32],
     pub count: usize,

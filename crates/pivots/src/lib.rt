@@ -13,7 +13,7 @@ use rows::Sum;
 use tables::row;
 
 // A stage's running sum s and pivot p.
-#[derive(Drop)]
+#[derive(Clone, Copy)]
 pub struct Stage {
     pub s: f64,
     pub p: f64,

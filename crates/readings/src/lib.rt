@@ -1,4 +1,6 @@
 // The steps of each reading on a sheet of at most 32 stages.
+#![tactic(auto)]
+
 ghost use Rattle.definitions.specs.Sheet.{size};
 ghost use Rattle.tables.specs.RowMajor.{IsTable, ZeroTable};
 ghost use Rattle.shape.specs.Square.{Square, WholeSheet};

@@ -1,5 +1,7 @@
 // The new sizes and leaving rates of the rows of two stages (the Schur complement), on the table t of sizes and leaving
 // rates.
+#![tactic(auto)]
+
 ghost use Rattle.std.specs.Prelude.{suc, ◌≤◌, ◌<◌};
 ghost use Rattle.tables.specs.RowMajor.{IsTable, table, Holds};
 ghost use Rattle.tables.specs.Operators.{replace, span};

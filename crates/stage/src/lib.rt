@@ -1,6 +1,8 @@
 // The stages of the steps that serve every column of b, two at a time, on the weights and the table t of sizes and leaving
 // rates: s_i stands at place (i, i) until stage i is done, and p_i afterwards; the multiplier of row i at
 // stage k takes the place (i, k), which no later step reads as a size.
+#![tactic(auto)]
+
 ghost use Rattle.std.specs.Prelude.{◌≡◌, suc, ◌≤◌, ◌<◌};
 ghost use Rattle.tables.specs.RowMajor.{IsTable, table, Holds};
 ghost use Rattle.bounds.specs.Bounds.{Covering};

@@ -1,5 +1,7 @@
 // Question 9: the lowest stage that no chain of moves leads out of and that is not idle (documents 01 and 02, U3).
 // The stages that get out are marked backwards from the exits. An idle stage is not trapped (document 02, U3).
+#![tactic(auto)]
+
 ghost use Rattle.std.specs.Prelude.{◌≤◌, false, ◌||◌, get_or};
 ghost use Rattle.definitions.specs.Sheet.{idle};
 ghost use Rattle.definitions.specs.Questions.{question9, gets_out, ask_stages};

@@ -1,0 +1,46 @@
+-- `columns::products_told` meets its contract: at turn q the turns before it are tested. Assumes nothing.
+use mathlib.Core.Path.{refl}
+use Prim.Native.Nat.{◌≤◌, ◌<◌, ◌-◌}
+use native.Mathlib.Omega.{arith}
+use borrow.Author.Rules.{rules}
+use Rattle.tables.specs.RowMajor.{table}
+use Rattle.steps.proofs.Gathering.{Gathered, gathered_begins, gathered_turns, gathered_all}
+use Rattle.passes.specs.RowPass.{turn, reach}
+use Rattle.ranges.specs.Quick.{products_at}
+use Rattle.ranges.proofs.Multiples.{products_at_lem}
+use Rattle.turns.proofs.Turns.{turn_below, reach-below}
+use Rattle.columns.proofs.products_told.Goals as goal
+use Rattle.columns.proofs.products_told.Goals.{After-turn-i, After-turn-k}
+
+-- The row of turn s, and the row that is due.
+own_below : (c : goal.After-turn-i) → c.turn-i.result < 32
+own_below c =
+    let l = turn_below c.args.r c.requires.1 c.args.falling c.args.s c.requires.0 in
+    omega (arith, c.turn-i.ensures)
+
+due_below : (c : goal.After-turn-k) → c.turn-k.result < 32
+due_below c =
+    let m = turn_below c.args.r c.requires.1 c.args.falling c.loop-q.q (omega arith) in
+    omega (arith, c.turn-k.ensures)
+
+pub products_in_range-products-requires : goal.products_in_range-products-requires
+products_in_range-products-requires c =
+    let w = reach-below c.args.r c.requires.1 c.args.falling c.loop-q.q (omega arith) in
+    (due_below (goal.at.products_in_range-products-requires c).After-turn-k, omega arith, omega (arith, c.reach.ensures), c.requires.3)
+
+pub loop-q-preserved : goal.loop-q-preserved
+loop-q-preserved c =
+    let k = c.turn-k.ensures in (
+      omega arith,
+      gathered_turns c.loop-q.invariant.1
+          (rw (c.reach.ensures, k, c.turn-i.ensures) at (products_at_lem c.reach.result (table c.args.t.now c.turn-i.result) (table c.args.b.now) c.turn-k.result c.get-m.ensures c.products_in_range-products.ensures)),
+    )
+
+pub loop-q-init : goal.loop-q-init
+loop-q-init c = (search rules, gathered_begins refl)
+
+pub get-m-requires : goal.get-m-requires
+get-m-requires c = (own_below (goal.at.get-m-requires c).After-turn-i, due_below c, search rules)
+
+pub returns : goal.returns
+returns c = gathered_all c.loop-q.invariant.1 (omega arith) (omega arith)

@@ -1,0 +1,18 @@
+-- `columns::products_told` meets its contract: at turn q the turns before it are tested. Assumes nothing.
+use mathlib.Core.Path.{refl}
+use Prim.Native.Nat.{◌≤◌, ◌<◌, ◌-◌}
+use native.Mathlib.Omega.{arith}
+use borrow.Author.Rules.{rules}
+use Rattle.tables.specs.RowMajor.{table}
+use Rattle.steps.proofs.Gathering.{Gathered, gathered_begins, gathered_turns, gathered_all}
+use Rattle.passes.specs.RowPass.{turn, reach}
+use Rattle.ranges.specs.Quick.{products_at}
+use Rattle.ranges.proofs.Multiples.{products_at_lem}
+use Rattle.turns.proofs.Turns.{turn_below, reach-below}
+use Rattle.columns.proofs.products_told.Given as goal
+
+abbrev pub invariant-loop-q : goal.invariant-loop-q
+invariant-loop-q l = (l.q ≤ l.s) × Gathered (λ q. products_at (reach l.r l.falling q) (table l.t (turn l.r l.falling l.s)) (table l.b) (turn l.r l.falling q)) 0 l.q l.ok
+
+abbrev pub decreases-loop-q : goal.decreases-loop-q
+decreases-loop-q l = l.s - l.q

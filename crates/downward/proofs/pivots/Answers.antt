@@ -1,0 +1,21 @@
+-- `downward::pivots` meets its contract: at stage k the places before it are filled. Assumes nothing.
+use mathlib.Core.Path.{refl}
+use Prim.Native.Nat.{◌≤◌, ◌-◌}
+use native.Mathlib.Omega.{arith}
+use borrow.Author.Rules.{rules}
+use Rattle.tables.specs.RowMajor.{table}
+use Rattle.tables.specs.Vectors.{vector}
+use Rattle.downward.specs.Downward.{on_diagonal}
+use Rattle.tables.proofs.Vectors.{AlongVector, vector_begins, vector_turns, vector_ends}
+use Rattle.downward.proofs.pivots.Goals as goal
+
+pub loop-k-init : goal.loop-k-init
+loop-k-init c = (search rules, vector_begins refl c.requires.2)
+
+pub loop-k-preserved : goal.loop-k-preserved
+unfolding on_diagonal
+loop-k-preserved c =
+    (omega arith, vector_turns c.loop-k.invariant.1 c.put.ensures c.get-x.ensures)
+
+pub returns : goal.returns
+returns c = vector_ends c.loop-k.invariant.1 (omega arith) (omega arith)

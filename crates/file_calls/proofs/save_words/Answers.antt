@@ -1,0 +1,13 @@
+-- `file_calls::save_words` meets its contract. Assumes nothing.
+use borrow.Author.Rules.{rules}
+use mir.Syntax.{w64}
+use mir.ValLaws.{to_z-of_z}
+use Rattle.definitions.specs.Saving.{saved_words}
+use Rattle.file_calls.proofs.FileCalls.{save_call}
+use Rattle.file_calls.proofs.save_words.Goals as goal
+
+-- e is handed over by its bits, which mean e.
+pub returns : goal.returns
+returns c =
+    let same = to_z-of_z w64 c.args.e c.ranges.e in
+    save_call saved_words c.args.reading c.args.n c.args.e c.args.sheet.now c.args.bytes.now (rw same at c.save_words-saved.ensures.result_value) (rw same at c.save_words-saved.ensures.area_after) c.hand_length.ensures

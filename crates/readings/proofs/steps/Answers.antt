@@ -1,0 +1,40 @@
+-- `readings::steps` meets its contract. Assumes nothing.
+use mathlib.Core.Logic.{⊎_elim}
+use mathlib.Core.Path.{sym, ◌∙◌}
+use borrow.Author.Tests.{not-false}
+use Rattle.shape.proofs.Square.{is_square}
+use Rattle.loading.proofs.LoadedSheet.{enough_weights}
+use Rattle.readings.proofs.SheetSteps.{every_part, every_stepped}
+use Rattle.readings.proofs.steps.Goals as goal
+
+pub margins_table-requires : goal.margins_table-requires
+margins_table-requires c = let s = c.requires in (is_square s.0, s.1.long)
+
+pub returns-then-reading-eq2 : goal.returns-then-reading-eq2
+returns-then-reading-eq2 c = rw c.if-reading-eq2.true c.margins_table.ensures
+
+pub live_stages-requires : goal.live_stages-requires
+live_stages-requires c = let s = c.requires in (is_square s.0, s.1)
+
+pub returns-then-some_idle : goal.returns-then-some_idle
+returns-then-some_idle c = rw c.if-reading-eq1.true c.live_stages.ensures
+
+pub every_stage-requires : goal.every_stage-requires
+every_stage-requires c =
+    let s = c.requires in
+    (is_square s.0, rw c.weights_of.ensures (enough_weights s.0), s.1)
+
+pub returns : goal.returns
+returns c =
+    every_stepped c.requires.0 c.if-reading-eq2.false
+    (⊎_elim
+    (λ w. rw w.0.true (not-false _ (sym w.1.ensures ∙ w.2.left)))
+    (λ w. every_part _ _ _ w.left)
+    c.else-reading-eq1.branch)
+    (rw c.weights_of.ensures at c.every_stage.ensures)
+
+pub some_idle-requires : goal.some_idle-requires
+some_idle-requires c = is_square c.requires.0
+
+pub weights_of-requires : goal.weights_of-requires
+weights_of-requires c = is_square c.requires.0

@@ -1,0 +1,60 @@
+-- `trapped::ask_marked` meets its contract: every stage before i is idle or marked. Assumes nothing.
+use mathlib.Core.Logic.{⊎_elim}
+use mathlib.Core.Path.{◌≡◌, ◌∙◌}
+use mathlib.Core.Bool.{Bool, true, false, not, ◌||◌, or-true}
+use mathlib.Core.List.{List}
+use Prim.Native.Nat.{ℕ, ◌≤◌, ◌-◌, zero-le}
+use native.Mathlib.Omega.{arith}
+use borrow.Author.Rules.{rules}
+use borrow.Author.Tests.{not-true, not-false}
+use lib.Ieee.{Float}
+use Rattle.exact.proofs.Bools.{denied, granted}
+use Rattle.definitions.specs.Sheet.{idle}
+use Rattle.definitions.specs.Questions.{ask_stages}
+use Rattle.answers.proofs.Outcome.{all_pass, no}
+use Rattle.steps.proofs.Searches.{from_stage, all-stages, good-stage, bad_stage, no_stage}
+use Rattle.marks.specs.declared.Marks.{Marks}
+use Rattle.marks.specs.Marks.{is_marked}
+use mathlib.Core.Path.{ap}
+use Rattle.trapped.proofs.ask_marked.Goals as goal
+
+abbrev passes : ℕ → List Float → Marks → ℕ → Bool
+passes n sheet marks i = idle n sheet i || is_marked marks i
+
+-- Stage i by the tests of the code.
+module _ (n : ℕ) (sheet : List Float) (marks : Marks) (i : ℕ) where
+  idle-passes : {b : Bool} → b ≡ idle n sheet i → not b ≡ false → passes n sheet marks i ≡ true
+  idle-passes {b} e h = rw (granted b (idle n sheet i) e h)
+
+  marked-passes : not (is_marked marks i) ≡ false → passes n sheet marks i ≡ true
+  marked-passes h = rw (not-false (is_marked marks i) h) (or-true (idle n sheet i))
+
+  neither : {b : Bool} → b ≡ idle n sheet i → not b ≡ true → not (is_marked marks i) ≡ true → passes n sheet marks i ≡ false
+  neither {b} e h g = rw (denied b (idle n sheet i) e h, not-true (is_marked marks i) g)
+
+pub returns-then-not-is_idle : goal.returns-then-not-is_idle
+returns-then-not-is_idle c =
+    let marks = c.args.t3 in
+    no (λ z. omega arith) (c.loop-i.invariant.1 ∙ bad_stage _ _ _ _ c.loop-i-test.true (neither _ _ marks _ c.is_idle.ensures (ap not c.if-not-is_idle.true) (ap not c.if-not-marks-i.true)))
+
+pub loop-i-preserved : goal.loop-i-preserved
+loop-i-preserved c =
+    let marks = c.args.t3 in (
+      omega arith,
+      ⊎_elim
+          (λ w. c.loop-i.invariant.1 ∙ good-stage _ _ _ _ c.loop-i-test.true (idle-passes _ _ marks _ w.1.ensures w.2.left))
+          (λ w. c.loop-i.invariant.1 ∙ good-stage _ _ _ _ c.loop-i-test.true (marked-passes _ _ marks _ w.left))
+          c.else-not-marks-i.branch,
+    )
+
+pub returns : goal.returns
+returns c = all_pass (c.loop-i.invariant.1 ∙ no_stage _ _ _ _ c.loop-i-test.false)
+
+pub loop-i-init : goal.loop-i-init
+loop-i-init c = (zero-le, all-stages _ _ _)
+
+pub bounds-marks-i : goal.bounds-marks-i
+bounds-marks-i c = omega (arith, c.requires.few)
+
+pub overflow_add-result : goal.overflow_add-result
+overflow_add-result c = omega (arith, c.requires.few)
