@@ -1,5 +1,7 @@
 // The service for one column (document 02, U2): the seconds at one stage, from every entry, for sheets of reading
 // 1. It has no `requires`: its questions are asked in order, and a no ends the call with no place changed.
+#![tactic(auto)]
+
 ghost use Rattle.std.specs.Prelude.{◌<◌, ◌≡◌, true, length};
 ghost use Rattle.definitions.specs.Numbers.{all};
 ghost use Rattle.definitions.specs.Sheet.{takes_part};

@@ -1,5 +1,7 @@
 // Moving a sheet to another time unit (document 02, U4, U5 and U10): every rate times 2^k and the weights as they are, in
 // a second lent area. The service has no `requires`: its questions are asked in order, and a no ends the call with no place changed.
+#![tactic(auto)]
+
 ghost use Rattle.std.specs.Prelude.{◌+◌, ◌≤◌, map, ◌++◌, ◌≡◌, length, get_or};
 ghost use Rattle.std.specs.Float.{nan};
 ghost use Rattle.definitions.specs.Numbers.{◌⊗◌, all};

@@ -1,5 +1,7 @@
 // The public services: the whole table with its allowance, and one entry. Neither has a `requires`:
 // the questions of document 01 are asked in its order, and a no ends the call with no place changed.
+#![tactic(auto)]
+
 ghost use Rattle.std.specs.Prelude.{◌≡◌, length};
 ghost use Rattle.definitions.specs.Questions.{pass, table_input, entry_input};
 ghost use Rattle.planner.specs.Promises.{TableDone, EntryDone};

@@ -1,5 +1,7 @@
 // The service for prices (document 02, U7): the price of a request by the stage at which it enters. It has no
 // `requires`: its questions are asked in order, and a no ends the call with no place changed.
+#![tactic(auto)]
+
 ghost use Rattle.std.specs.Prelude.{◌≡◌, length};
 ghost use Rattle.definitions.specs.Questions.{◌then◌, pass};
 ghost use Rattle.definitions.specs.Prices.{question19, price_input};

@@ -1,5 +1,7 @@
 // Questions 1 to 9 of document 01, in its order and with 12 of the unit, for the whole table, one column, one
 // entry and prices, and those of moving. The public calls have no `requires`: each question is asked only where the ones before it passed.
+#![tactic(auto)]
+
 ghost use Rattle.std.specs.Prelude.{cond};
 ghost use Rattle.definitions.specs.Questions.{place_questions, number_questions, table_input, entry_input};
 ghost use Rattle.definitions.specs.Column.{column_input};

@@ -6,6 +6,7 @@ use Rattle.shape.proofs.Square.{is_square}
 use Rattle.loading.proofs.LoadedSheet.{enough_weights}
 use Rattle.readings.proofs.SheetSteps.{every_part, every_stepped}
 use Rattle.readings.proofs.steps.Goals as goal
+use Rattle.readings.proofs.steps.Goals.{else-reading-eq1-via-then-reading-eq1+else-some_idle, else-reading-eq1-via-else-reading-eq1}
 
 pub margins_table-requires : goal.margins_table-requires
 margins_table-requires c = let s = c.requires in (is_square s.0, s.1.long)
@@ -27,10 +28,10 @@ every_stage-requires c =
 pub returns : goal.returns
 returns c =
     every_stepped c.requires.0 c.if-reading-eq2.false
-    (⊎_elim
-    (λ w. rw w.0.true (not-false _ (sym w.1.ensures ∙ w.2.left)))
-    (λ w. every_part _ _ _ w.left)
-    c.else-reading-eq1.branch)
+    (elim c.else-reading-eq1.branch [
+      else-reading-eq1-via-then-reading-eq1+else-some_idle w ↦ rw w.if-reading-eq1.true (not-false _ (sym w.some_idle.ensures ∙ w.if-some_idle.false))
+    | else-reading-eq1-via-else-reading-eq1 w ↦ every_part _ _ _ w.if-reading-eq1.false
+    ])
     (rw c.weights_of.ensures at c.every_stage.ensures)
 
 pub some_idle-requires : goal.some_idle-requires

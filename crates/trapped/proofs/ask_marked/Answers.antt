@@ -17,6 +17,7 @@ use Rattle.marks.specs.declared.Marks.{Marks}
 use Rattle.marks.specs.Marks.{is_marked}
 use mathlib.Core.Path.{ap}
 use Rattle.trapped.proofs.ask_marked.Goals as goal
+use Rattle.trapped.proofs.ask_marked.Goals.{else-not-marks-i-via-then-not-marks-i+else-not-is_idle, else-not-marks-i-via-else-not-marks-i}
 
 abbrev passes : ℕ → List Float → Marks → ℕ → Bool
 passes n sheet marks i = idle n sheet i || is_marked marks i
@@ -34,17 +35,19 @@ module _ (n : ℕ) (sheet : List Float) (marks : Marks) (i : ℕ) where
 
 pub returns-then-not-is_idle : goal.returns-then-not-is_idle
 returns-then-not-is_idle c =
-    let marks = c.args.t3 in
+    let marks = c.args.marks in
     no (λ z. omega arith) (c.loop-i.invariant.1 ∙ bad_stage _ _ _ _ c.loop-i-test.true (neither _ _ marks _ c.is_idle.ensures (ap not c.if-not-is_idle.true) (ap not c.if-not-marks-i.true)))
 
 pub loop-i-preserved : goal.loop-i-preserved
 loop-i-preserved c =
-    let marks = c.args.t3 in (
+    let marks = c.args.marks in (
       omega arith,
-      ⊎_elim
-          (λ w. c.loop-i.invariant.1 ∙ good-stage _ _ _ _ c.loop-i-test.true (idle-passes _ _ marks _ w.1.ensures w.2.left))
-          (λ w. c.loop-i.invariant.1 ∙ good-stage _ _ _ _ c.loop-i-test.true (marked-passes _ _ marks _ w.left))
-          c.else-not-marks-i.branch,
+      elim c.else-not-marks-i.branch [
+        else-not-marks-i-via-then-not-marks-i+else-not-is_idle w ↦
+          c.loop-i.invariant.1 ∙ good-stage _ _ _ _ c.loop-i-test.true (idle-passes _ _ marks _ w.is_idle.ensures (ap not w.if-not-is_idle.false))
+      | else-not-marks-i-via-else-not-marks-i w ↦
+          c.loop-i.invariant.1 ∙ good-stage _ _ _ _ c.loop-i-test.true (marked-passes _ _ marks _ (ap not w.if-not-marks-i.false))
+      ],
     )
 
 pub returns : goal.returns

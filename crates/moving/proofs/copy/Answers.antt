@@ -1,0 +1,17 @@
+-- `moving::copy` meets its contract. The loop's invariant: the first weights are written. Assumes nothing.
+use Prim.Native.Nat.{◌-◌}
+use mathlib.Core.Path.{refl}
+use native.Mathlib.Omega.{arith}
+use lib.ListN.{length}
+use lib.Ieee.{nan}
+use Rattle.steps.proofs.Filling.{Filling, none_yet, one_more, all_written}
+use Rattle.moving.proofs.copy.Goals as goal
+
+pub loop-i-init : goal.loop-i-init
+loop-i-init c = none_yet refl c.requires
+
+pub loop-i-preserved : goal.loop-i-preserved
+loop-i-preserved c = one_more _ nan c.loop-i.invariant c.loop-i-test.true refl
+
+pub returns : goal.returns
+returns c = all_written c.loop-i.invariant c.loop-i-test.false

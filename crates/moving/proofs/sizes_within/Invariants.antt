@@ -1,0 +1,16 @@
+-- `moving::sizes_within` meets its contract. The loop's invariant: the flag tells of the numbers so far. Assumes nothing.
+use mathlib.Core.Path.{◌≡◌, refl, ap, ◌∙◌}
+use Prim.Native.Nat.{ℕ, ◌-◌, ◌≤◌}
+use native.Mathlib.Omega.{arith}
+use lib.ListN.{length, get_or}
+use lib.Ieee.{nan}
+use Rattle.definitions.specs.Numbers.{all}
+use Rattle.rounding.specs.ResultRange.{size_within}
+use Rattle.steps.proofs.All.{all_more}
+use Rattle.moving.proofs.sizes_within.Given as goal
+
+abbrev pub invariant-loop-at : goal.invariant-loop-at
+invariant-loop-at l = (l.at ≤ length l.numbers) × (l.good ≡ all (λ at. size_within l.least l.most (get_or l.numbers at nan)) 0 l.at)
+
+abbrev pub decreases-loop-at : goal.decreases-loop-at
+decreases-loop-at l = length l.numbers - l.at

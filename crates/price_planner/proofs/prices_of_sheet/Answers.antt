@@ -1,0 +1,43 @@
+-- `price_planner::prices_of_sheet` meets its contract. Assumes nothing.
+use mathlib.Core.Path.{◌≡◌, refl}
+use native.Mathlib.Omega.{arith}
+use borrow.Author.Rules.{rules}
+use lib.ListN.{length}
+use Prim.Native.Nat.{◌≤◌}
+use Rattle.shape.specs.Square.{WholeSheet}
+use Rattle.shape.proofs.ShapeQuestions.{price_input-passed}
+use Rattle.steps.proofs.QuestionLaws.{then_first}
+use Rattle.definitions.specs.Prices.{question19, price_input}
+use Rattle.definitions.specs.Accuracy.{Binary64}
+use Rattle.price_planner.proofs.Endings.{prices_given, prices_out_of_range}
+use Rattle.price_planner.proofs.prices_of_sheet.Goals as goal
+use Rattle.price_planner.proofs.prices_of_sheet.Goals.{Start}
+
+-- What the questions before 19 leave.
+input : (s : goal.Start) → WholeSheet s.args.reading s.args.n s.args.sheet.now × (s.args.n ≤ length s.args.answer.now) × (length s.args.prices.now ≡ s.args.n)
+input s =
+    let given = s.args.prices.now in
+    let room = length s.args.answer.now in
+    price_input-passed s.args.reading s.args.n s.args.e s.args.sheet.now (length given) room
+    (then_first (price_input s.args.reading s.args.n s.args.e s.args.sheet.now (length given) room) (question19 s.args.n given) s.requires)
+
+pub steps-requires : goal.steps-requires
+steps-requires c = let p = input (goal.at.steps-requires c).Start in (p.0, p.2, refl)
+
+pub write_column-requires : goal.write_column-requires
+write_column-requires c =
+    let p = input (goal.at.write_column-requires c).Start in
+    (omega (arith, p.0.few), omega (arith, p.1), c.steps.ensures.long)
+
+pub allowance_of_prices-requires : goal.allowance_of_prices-requires
+allowance_of_prices-requires c = (input (goal.at.allowance_of_prices-requires c).Start).0.few
+
+pub returns-then-steps : goal.returns-then-steps
+unfolding Binary64
+returns-then-steps c =
+    prices_given c.args.reading c.args.n c.args.e c.args.sheet.now c.args.prices.now c.args.answer.now c.requires c.steps.ensures
+    c.shared_slice_known-1.given c.shared_slice_known-2-1.given c.if-steps.true c.write_column.ensures c.allowance_of_prices.ensures
+
+pub returns : goal.returns
+returns c =
+    prices_out_of_range c.args.reading c.args.n c.args.e c.args.sheet.now c.args.prices.now c.args.answer.now c.requires c.steps.ensures c.if-steps.false
