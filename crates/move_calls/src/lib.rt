@@ -1,4 +1,6 @@
 // Moving a sheet to another time unit with out places (`out_places`), as programs in C call it.
+#![tactic(auto)]
+
 ghost use Rattle.move_calls.specs.MoveCalls.{MoveCall};
 
 // The sheet with its rates times 2^k, in the first places of the area, and its unit.

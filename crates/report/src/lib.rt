@@ -1,4 +1,6 @@
 // The text that dwell prints for the bytes of a sheet file, made as a whole in a lent buffer.
+#![tactic(auto)]
+
 ghost use Rattle.std.specs.Prelude.{◌≤◌, length};
 ghost use Rattle.definitions.specs.Services.{table_answer};
 ghost use Rattle.definitions.specs.File.{file_answer};

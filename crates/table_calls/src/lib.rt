@@ -1,4 +1,6 @@
 // The whole table, one column, one entry and prices with out places (`out_places`), as programs in C call them.
+#![tactic(auto)]
+
 ghost use Rattle.table_calls.specs.TableCalls.{TableCall, ColumnCall, EntryCall, PricesCall};
 
 // The whole table in the first n × n places of the answer area, and its allowance.
