@@ -3,7 +3,7 @@
 
     python3 bench/run.py [--quick] [--no-errors] [--goals] [--sizes 2,4,8-12] [--against libhosts.a]
 
-builds the proved library (`rt staticlib hosts`), bench/steps.c and bench/time.c into target/bench, checks
+builds the proved library (`rt lib` in crates/hosts_c), bench/steps.c and bench/time.c into target/bench, checks
 that all give the same bits and decisions, and prints seven parts: the time of a whole table, of each reading, of
 sheets at the edge of the range, errors, the time of one column, of sheets with idle stages, of moving a sheet to
 another time unit, and of prices.  With --against the library of another commit, whose calls take the same arguments,
@@ -35,6 +35,7 @@ from sheets import Sheet, reference  # noqa: E402
 
 ROOT = Path(__file__).resolve().parent.parent
 BUILD = ROOT / "target" / "bench"
+CRATE = ROOT / "crates" / "hosts_c"
 ARCHIVE = ROOT / "target" / "staticlib" / "libhosts.a"
 SIZES = [2, 3, 4, 8, 12, 16, 24, 32]
 COMMON = ["-std=c11", "-Wall", "-Wextra", "-ffp-contract=off"]
@@ -91,7 +92,9 @@ def has_openblas() -> bool:
 def build_library() -> None:
     """The proved library; without the toolchain one that was built before serves."""
     if shutil.which("rt"):
-        run(["rt", "staticlib", "hosts"], cwd=ROOT)
+        run(["rt", "lib"], cwd=CRATE)
+        ARCHIVE.parent.mkdir(parents=True, exist_ok=True)
+        shutil.copyfile(CRATE / "out" / "libhosts_c.a", ARCHIVE)
     elif not ARCHIVE.exists():
         sys.exit(f"bench: no rt on the path and no {ARCHIVE}")
 

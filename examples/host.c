@@ -4,7 +4,8 @@
  * time unit first, every number but the weights times 2^K: K = -10 makes rates per second rates per tick, at 1,024
  * ticks a second, and the copy says so.
  *
- *   rt staticlib hosts
+ *   (cd crates/hosts_c && rt lib)
+ *   mkdir -p target/staticlib && cp crates/hosts_c/out/libhosts_c.a target/staticlib/libhosts.a
  *   cc -std=c99 -Wall -Wextra -pedantic -I include examples/host.c target/staticlib/libhosts.a -o target/host
  *   python3 tools/sheet.py make examples/signing.txt | target/host
  *

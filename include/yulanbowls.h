@@ -1,7 +1,7 @@
 /*
- * Yulanbowls for C and C++ programs: dwell times from a flow sheet. The archive is libhosts.a, which
- * `rt staticlib hosts` builds for x86-64 Linux. What is promised below is proved of the library's code;
- * the exact statements are the `ensures` of crates/hosts/src/lib.rt, crates/hosts/specs/,
+ * Yulanbowls for C and C++ programs: dwell times from a flow sheet. The archive is libhosts.a for x86-64 Linux;
+ * README.md says how it is built. What is promised below is proved of the library's code;
+ * the exact statements are the `ensures` of crates/hosts_c/src/lib.rt, crates/hosts/specs/,
  * crates/table_calls/specs/, crates/file_calls/specs/ and crates/move_calls/specs/, and for what joins a move
  * with other calls crates/commuting/specs/.
  *

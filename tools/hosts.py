@@ -1,7 +1,7 @@
 """The library for hosts in this process, each call held to the reference.
 
-`Library` builds target/staticlib/libhosts.a by `rt staticlib hosts`, or takes an archive that is there, makes a
-shared object of it and loads that.  `Calls` makes single calls: every lent area and out place stands between
+`Library` builds target/staticlib/libhosts.a by `rt lib` in crates/hosts_c, or takes an archive that is there, makes
+a shared object of it and loads that.  `Calls` makes single calls: every lent area and out place stands between
 guards and holds random bits before the call, and afterwards the number returned and every place are those that
 `tools/reference.py` gives.  A `Difference` says what is not.  The environment variable CC names the C compiler.
 """
@@ -12,6 +12,7 @@ import os
 import random
 import re
 import shlex
+import shutil
 import struct
 import subprocess
 import sys
@@ -25,6 +26,7 @@ from reference import Column, Loaded, Moved, Prices, Refused, Saved, Seconds, Ta
 
 ROOT = Path(__file__).resolve().parent.parent
 HEADER = ROOT / "include" / "yulanbowls.h"
+CRATE = ROOT / "crates" / "hosts_c"
 ARCHIVE = ROOT / "target" / "staticlib" / "libhosts.a"
 CC = shlex.split(os.environ.get("CC", "cc"))
 TEXT_BYTES = 32768
@@ -39,15 +41,15 @@ class Difference(AssertionError):
 
 # ==== The library ====
 
-def run(*command: str, stdin: bytes = b"") -> subprocess.CompletedProcess[bytes]:
+def run(*command: str, stdin: bytes = b"", folder: Path = ROOT) -> subprocess.CompletedProcess[bytes]:
     """Runs a command in the repository."""
-    return subprocess.run(command, input=stdin, stdout=subprocess.PIPE, stderr=subprocess.STDOUT, cwd=ROOT,
+    return subprocess.run(command, input=stdin, stdout=subprocess.PIPE, stderr=subprocess.STDOUT, cwd=folder,
                           check=False)
 
 
-def must(*command: str) -> None:
+def must(*command: str, folder: Path = ROOT) -> None:
     """Runs a command that has to succeed."""
-    done = run(*command)
+    done = run(*command, folder=folder)
     if done.returncode != 0:
         raise RuntimeError(f"{shlex.join(command)} failed:\n{done.stdout.decode()}")
 
@@ -59,12 +61,19 @@ def declared() -> dict[str, list[str]]:
     return {name: [re.findall(r"\w+", part)[-1] for part in parts.split(",")] for name, parts in found}
 
 
+def build() -> None:
+    """The archive, proved and built."""
+    must("rt", "lib", folder=CRATE)
+    ARCHIVE.parent.mkdir(parents=True, exist_ok=True)
+    shutil.copyfile(CRATE / "out" / "libhosts_c.a", ARCHIVE)
+
+
 class Library:
     """The archive as a shared object; parameters go in the order in which the header declares them."""
 
     def __init__(self, folder: str, archive: Optional[Path] = None) -> None:
         if archive is None:
-            must("rt", "staticlib", "hosts")
+            build()
         shared = str(Path(folder) / "libhosts.so")
         must(*CC, "-shared", "-Wl,--whole-archive", str(archive or ARCHIVE), "-Wl,--no-whole-archive", "-o", shared)
         library = ctypes.CDLL(shared)

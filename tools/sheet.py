@@ -958,8 +958,8 @@ The price of a request starts at zero and adds, stage by stage, its time there t
 OVERVIEW = """\
 From numbers in a text file or a spreadsheet to a table of seconds, and from unit prices to a price list:
   python3 tools/sheet.py make line.txt > line.sheet
-  target/bin/dwell < line.sheet | python3 tools/sheet.py table --names line.txt
-  target/bin/dwell < line.sheet | python3 tools/sheet.py prices prices.txt --names line.txt
+  crates/dwell/out/dwell < line.sheet | python3 tools/sheet.py table --names line.txt
+  crates/dwell/out/dwell < line.sheet | python3 tools/sheet.py prices prices.txt --names line.txt
 
 FILE, TEXT and PRICES may be - for standard input.  `sheet.py make --help` describes the text forms,
 `sheet.py prices --help` those of unit prices."""
@@ -1017,7 +1017,7 @@ def names_of_all(options: argparse.Namespace, names: list[str], n: int) -> list[
 def run_make(options: argparse.Namespace) -> bytes:
     """The make command."""
     if sys.stdout.isatty():
-        raise Problem("a sheet file is not text: send it to a file (> FILE) or to dwell (| target/bin/dwell)")
+        raise Problem("a sheet file is not text: send it to a file (> FILE) or to dwell (| crates/dwell/out/dwell)")
     return file_of(sheet_of(draft_of_path(options.text)))
 
 

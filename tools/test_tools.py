@@ -1875,7 +1875,7 @@ class Examples(ToolTest):
         self.assertTrue(blocks)
         for folder in ("tools", "examples"):
             os.symlink(ROOT / folder, Path(self.folder) / folder)
-        program = Path(self.folder) / "target" / "bin" / "dwell"
+        program = Path(self.folder) / "crates" / "dwell" / "out" / "dwell"
         program.parent.mkdir(parents=True)
         program.write_text(f"#!/bin/sh\ncd {shlex.quote(START_FOLDER)}\nexec {shlex.join(DWELL)}\n")
         program.chmod(0o755)

@@ -2,7 +2,9 @@
 // `row` and `column` tell the rest of it, 0 and 0 where there is none. What the call hands over goes to out
 // places that the caller lends; a refused call leaves these as they were. A sheet's unit is 2^e seconds. No call
 // has a `requires`.
-// `include/yulanbowls.h` declares them.
+// `hosts_c` exports them under the same names, and `include/yulanbowls.h` declares them.
+#![tactic(auto)]
+
 ghost use Rattle.definitions.specs.File.{file_number_area, file_word_area};
 ghost use Rattle.definitions.specs.Saving.{saved_numbers, saved_words};
 ghost use Rattle.file_calls.specs.FileCalls.{FileCall, SaveCall};
@@ -11,8 +13,7 @@ ghost use Rattle.table_calls.specs.TableCalls.{TableCall, ColumnCall, EntryCall,
 ghost use Rattle.hosts.specs.HostCalls.{ReportCall};
 
 // The whole table in the first n × n places of the answer area, and its allowance.
-#[unsafe(no_mangle)]
-pub extern "C" fn yulanbowls_table(
+pub fn yulanbowls_table(
     reading: usize,
     n: usize,
     e: i64,
@@ -28,8 +29,7 @@ pub extern "C" fn yulanbowls_table(
 }
 
 // The column of a stage, counted from 1, in the first n places of the answer area, and its allowance.
-#[unsafe(no_mangle)]
-pub extern "C" fn yulanbowls_column(
+pub fn yulanbowls_column(
     reading: usize,
     n: usize,
     e: i64,
@@ -46,8 +46,7 @@ pub extern "C" fn yulanbowls_column(
 }
 
 // Entry (i, j), counted from 1: the seconds that a request entering at stage i spends at stage j.
-#[unsafe(no_mangle)]
-pub extern "C" fn yulanbowls_entry(
+pub fn yulanbowls_entry(
     reading: usize,
     n: usize,
     e: i64,
@@ -64,8 +63,7 @@ pub extern "C" fn yulanbowls_entry(
 }
 
 // The price of a request that enters at each stage, in the first n places of the answer area, and its allowance.
-#[unsafe(no_mangle)]
-pub extern "C" fn yulanbowls_prices(
+pub fn yulanbowls_prices(
     reading: usize,
     n: usize,
     e: i64,
@@ -82,8 +80,7 @@ pub extern "C" fn yulanbowls_prices(
 }
 
 // A sheet file's numbers in the first places of the area, each from its bits.
-#[unsafe(no_mangle)]
-pub extern "C" fn yulanbowls_read_numbers(
+pub fn yulanbowls_read_numbers(
     bytes: &[u8],
     area: &mut [f64],
     reading: &mut usize,
@@ -98,8 +95,7 @@ pub extern "C" fn yulanbowls_read_numbers(
 }
 
 // A sheet file's 64-bit words in the first places of the area; every bit is kept.
-#[unsafe(no_mangle)]
-pub extern "C" fn yulanbowls_read_words(
+pub fn yulanbowls_read_words(
     bytes: &[u8],
     area: &mut [u64],
     reading: &mut usize,
@@ -114,8 +110,7 @@ pub extern "C" fn yulanbowls_read_words(
 }
 
 // A sheet of numbers as a file in the first bytes of the area, each number by its bits.
-#[unsafe(no_mangle)]
-pub extern "C" fn yulanbowls_save_numbers(
+pub fn yulanbowls_save_numbers(
     reading: usize,
     n: usize,
     e: i64,
@@ -131,8 +126,7 @@ pub extern "C" fn yulanbowls_save_numbers(
 }
 
 // A sheet of 64-bit words as a file in the first bytes of the area; every bit is kept.
-#[unsafe(no_mangle)]
-pub extern "C" fn yulanbowls_save_words(
+pub fn yulanbowls_save_words(
     reading: usize,
     n: usize,
     e: i64,
@@ -148,8 +142,7 @@ pub extern "C" fn yulanbowls_save_words(
 }
 
 // The sheet with its rates times 2^k, in the first places of the area, and its unit.
-#[unsafe(no_mangle)]
-pub extern "C" fn yulanbowls_move(
+pub fn yulanbowls_move(
     reading: usize,
     n: usize,
     e: i64,
@@ -167,8 +160,7 @@ pub extern "C" fn yulanbowls_move(
 
 // The text that dwell prints for a sheet file, at the start of the area; returns its length. An area
 // of less than 32,768 bytes is left alone.
-#[unsafe(no_mangle)]
-pub extern "C" fn yulanbowls_report(bytes: &[u8], text: &mut [u8]) -> usize
+pub fn yulanbowls_report(bytes: &[u8], text: &mut [u8]) -> usize
     ensures { ReportCall bytes.now text.old text.new result }
 {
     if text.len() < 32768 {
