@@ -1,5 +1,5 @@
 -- What the library promises of the report, for every input; its other calls are those of `table_calls` and `file_calls`.
-use Rattle.std.specs.Prelude.{cond, List, [], ℕ, ◌-◌, ◌≤◌, leb, length}
+use Rattle.std.specs.Prelude.{cond, List, [], ℕ, ◌≤◌, leb, length}
 use Rattle.definitions.specs.File.{file_answer}
 use Rattle.definitions.specs.Dwell.{file_text}
 use Rattle.buffer.specs.Pasted.{AtStart}
