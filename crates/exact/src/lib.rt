@@ -1,1 +1,3 @@
+#![tactic(auto)]
+
 // Exact theory: statements in specs/, proofs in proofs/. This crate has no functions.

@@ -1,6 +1,6 @@
 -- The exact ratios h_j / a_jj of the margins as whole numbers K_j over one denominator D, for sizes t_ij and margins d_i of n
 -- stages that are whole numbers too. No t_ii is read but in the last law, where it cancels.
-use Rattle.std.specs.Prelude.{◌≡◌, ◌↔◌, ℕ, zero, suc, ◌+◌, ◌*◌, ◌-◌, ◌<◌}
+use Rattle.std.specs.Prelude.{◌≡◌, ◌↔◌, ℕ, suc, ◌+◌, ◌*◌, ◌-◌, ◌<◌}
 use Rattle.exact.specs.Sums.{sum}
 
 -- h_i over D: Σ_{j<i} t_ij K_j + Σ_{j>i} t_ij D.

@@ -1,12 +1,12 @@
 -- A pivot from its parts, with weights and without.
-use mathlib.Core.Path.{◌≡◌, refl, ap, ap₂, sym, ◌∙◌}
+use mathlib.Core.Path.{◌≡◌, refl, ap, ap₂, ◌∙◌}
 use Prim.Native.Nat.{ℕ, suc, ◌-◌, ◌<◌}
 use mathlib.Core.Bool.{Bool, ◌&&◌}
 use mathlib.Core.List.{List}
 use lib.ListN.{length, get_or}
 use lib.Ieee.{Float, nan}
 use Rattle.definitions.specs.Numbers.{◌⊕◌, ◌⊘◌, finite, div_in_range}
-use Rattle.definitions.specs.LeavingRates.{Weights, none, some, later_sizes, pivot, products_in_range, pivot_in_range}
+use Rattle.definitions.specs.LeavingRates.{none, some, later_sizes, pivot, products_in_range, pivot_in_range}
 use Rattle.steps.proofs.Pivot.{plain_test, weighted_test}
 use Rattle.passes.specs.Weights.{weights_in}
 use Rattle.passes.specs.Multipliers.{system_in}

@@ -14,7 +14,6 @@ use Rattle.exact.specs.Chains.{In}
 use Rattle.exact.proofs.Bools.{holds, or_l}
 use Rattle.exact.proofs.Cases.{by_bool}
 use Rattle.definitions.specs.Numbers.{0·0, finite, is_zero, units}
-use Rattle.definitions.specs.LeavingRates.{Weights, none, some}
 use Rattle.definitions.specs.Sheet.{sheet_rows, place, size, diagonal, weight, weights}
 use Rattle.definitions.specs.Accuracy.{Binary64}
 use Rattle.definitions.specs.Questions.{pass, right_sign, moves, leaves, question9, place_questions, number_questions}

@@ -20,7 +20,7 @@ use Rattle.steps.proofs.LeavingRatesSteps.{at-start, at_next, multiplier_is, siz
 use Rattle.rates_accuracy.specs.LeavingRatesAccuracy.{weight_units, exit_units, in_units, GoodWeights, GoodSystem, StagesGetOut, stage_roundings}
 use Rattle.rates_accuracy.proofs.LeavingRatesRange.{StageRange, stage_range, downward-shared, upward_division}
 use Rattle.rates_accuracy.proofs.OperationErrors.{adds_product}
-use Rattle.rates_accuracy.proofs.PivotErrors.{row-good, pivot-good, pivot_near, pivot_roundings, stage_count}
+use Rattle.rates_accuracy.proofs.PivotErrors.{row-good, pivot-good, pivot_near, stage_count}
 
 -- The number v is good, and within e roundings of x + t·W·y / P, where W is the weight of the stage.
 pub record Eliminated (e P W : ℕ) (x t y v : Float) : Type 0 where

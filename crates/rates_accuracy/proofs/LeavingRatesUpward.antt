@@ -1,12 +1,11 @@
 -- The upward stages of one column, and its exact quotients b_i / p_i, divided by the weights, over one denominator, the product of the
 -- pivots and the weights.
-use Prim.Native.Nat.{ℕ, zero, suc, ◌+◌, ◌-◌, ◌*◌, ◌/◌, ◌≤◌, ◌<◌}
+use Prim.Native.Nat.{ℕ, zero, suc, ◌+◌, ◌-◌, ◌*◌, ◌/◌, ◌<◌}
 use mathlib.Core.Path.{◌≡◌, sym, ap, ◌∙◌, subst, subst₂}
-use native.Mathlib.Nat.{mul_comm, mul_assoc, mul_left_comm, add-mul}
+use native.Mathlib.Nat.{mul_assoc, mul_left_comm, add-mul}
 use native.Mathlib.Omega.{arith}
 use lib.Dec.{T}
 use lib.Ieee.{Float}
-use Rattle.exact.specs.Chains.{In}
 use Rattle.exact.specs.Near.{Near}
 use Rattle.exact.specs.Sums.{sum}
 use Rattle.exact.specs.Systems.{mix}

@@ -1,7 +1,7 @@
 -- A pivot is good, with as many roundings as there are stages after it: its first addition, to plus zero, has none. With weights it has
 -- a product and a division more.
 use Prim.Native.Nat.{ℕ, zero, suc, ◌+◌, ◌-◌, ◌*◌, ◌≤◌, ◌<◌}
-use mathlib.Core.Path.{◌≡◌, ap, ◌∙◌, subst}
+use mathlib.Core.Path.{◌≡◌, ap, ◌∙◌}
 use native.Mathlib.Nat.{add-mul}
 use native.Mathlib.Omega.{arith}
 use lib.Dec.{T}
@@ -14,7 +14,7 @@ use Rattle.exact.specs.Systems.{diag}
 use Rattle.exact.specs.Elimination.{pivot}
 use Rattle.exact.proofs.Near.{near_refl, near_trans, near_scale, near_add}
 use Rattle.exact.proofs.Sums.{first, later, sum-falling, sum_scale}
-use Rattle.definitions.specs.Numbers.{◌⊕◌, ◌⊗◌, ◌⊘◌, 0·0, add_in_range, mul_in_range, div_in_range, sum, sum_in_range, all, units}
+use Rattle.definitions.specs.Numbers.{◌⊕◌, ◌⊗◌, 0·0, add_in_range, mul_in_range, sum, sum_in_range, units}
 use Rattle.definitions.specs.LeavingRates.{Weights, none, some, System, weighed, falling, over_weight, products_in_range, over_weight_in_range, pivot_in_range, p}
 use Rattle.rounding.specs.Good.{Good, one·units}
 use Rattle.rounding.proofs.Laws.{one-pos, zero_is_good, sum-good, product-good, product_rounds, quotient-good, quotient_rounds}

@@ -6,7 +6,6 @@ use mathlib.Core.Bool.{Bool, true, false, not}
 use lib.Dec.{T, ltb, ltb→lt, nltb→le}
 use lib.Pow.{pow-add, pow_pos}
 use lib.Ieee.{Float, Format, prec, low, size, round, add, mul, div}
-use lib.Ieee.Fits.{two}
 use lib.Ieee.Scale.{finite, grid_scale, round_same, normal_of_rounded}
 use Rattle.rounding.specs.Good.{GoodIn}
 use Rattle.rounding.proofs.Value.{amount}

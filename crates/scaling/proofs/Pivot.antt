@@ -5,8 +5,8 @@ use native.Mathlib.Omega.{arith}
 use mathlib.Core.Path.{◌≡◌}
 use lib.Dec.{T}
 use lib.Ieee.{Float}
-use Rattle.definitions.specs.Numbers.{0·0, ◌⊕◌, mul_in_range}
-use Rattle.definitions.specs.LeavingRates.{Weights, none, some, System, weighed, falling, over_weight, pivot, products_in_range, over_weight_in_range, pivot_in_range}
+use Rattle.definitions.specs.Numbers.{mul_in_range}
+use Rattle.definitions.specs.LeavingRates.{Weights, none, some, System, weighed, over_weight, pivot, products_in_range, over_weight_in_range, pivot_in_range}
 use Rattle.rounding.specs.Scaling.{Scaled}
 use Rattle.rounding.proofs.Laws.{quotient_cases}
 use Rattle.rounding.proofs.Scaling.{sum_scales, dividend_scales}

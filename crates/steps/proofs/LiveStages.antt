@@ -9,7 +9,7 @@ use lib.Dec.{eqb}
 use lib.ListN.{get_or}
 use lib.Ieee.{Float}
 use lib.Ieee.Bits.{is_true}
-use borrow.Author.Tests.{not-true, not-false}
+use borrow.Author.Tests.{not-false}
 use Rattle.exact.proofs.Bools.{holds}
 use Rattle.definitions.specs.Numbers.{0·0, is_zero, all}
 use Rattle.definitions.specs.LeavingRates.{none, System, downward, quotient, shared, column, in_range}

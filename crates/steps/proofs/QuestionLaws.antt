@@ -1,6 +1,6 @@
 -- Laws of the questions: one after another, and what it says of a sheet that they are answered yes.
-use Prim.Native.Nat.{ℕ, zero, suc, ◌+◌, ◌*◌, ◌≤◌, ◌<◌}
-use mathlib.Core.Bool.{Bool, true, false, ◌&&◌, ◌||◌, cond}
+use Prim.Native.Nat.{ℕ, zero, suc, ◌+◌, ◌≤◌, ◌<◌}
+use mathlib.Core.Bool.{Bool, true, false, ◌&&◌, ◌||◌}
 use mathlib.Core.List.{List}
 use mathlib.Core.Path.{◌≡◌, refl, ap₂, ◌∙◌}
 use native.Mathlib.Omega.{arith}
@@ -13,7 +13,7 @@ use lib.Ieee.Bits.{is_true}
 use Rattle.exact.specs.Chains.{In}
 use Rattle.exact.proofs.Sums.{none_in, on_range}
 use Rattle.definitions.specs.Numbers.{finite}
-use Rattle.definitions.specs.Sheet.{sheet_rows, sheet_numbers, place}
+use Rattle.definitions.specs.Sheet.{sheet_rows, place}
 use Rattle.definitions.specs.Services.{given, answer}
 use Rattle.definitions.specs.Questions.{Asked, pass, refuse, ◌then◌, ask, ask_row, ask_rows, ask_stages, exponent_in_range, known_reading, question1, size_questions, shape_questions, question5, question6, right_sign, question7, large_enough, question8, place_questions}
 

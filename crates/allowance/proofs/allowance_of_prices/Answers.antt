@@ -1,6 +1,5 @@
 -- `allowance::allowance_of_prices` meets its contract. Assumes nothing.
 use native.Mathlib.Omega.{arith}
-use borrow.Author.Rules.{rules}
 use Rattle.definitions.specs.Prices.{price_allowance}
 use Rattle.allowance.proofs.Cubes.{allowance_small}
 use Rattle.allowance.proofs.allowance_of_prices.Goals as goal

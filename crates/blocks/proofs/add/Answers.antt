@@ -1,6 +1,5 @@
 -- `blocks::add` meets its contract, number by number. Assumes nothing.
 use mathlib.Core.Path.{refl}
-use borrow.Author.Rules.{rules}
 use Rattle.tables.specs.Rows.{plus_multiple}
 use Rattle.steps.proofs.AddProduct.{step_same}
 use Rattle.blocks.proofs.add.Goals as goal

@@ -1,10 +1,8 @@
 -- `blocks::add_rows` meets its contract: after q turns q rows are added. Assumes nothing.
-use Prim.Native.Nat.{◌≤◌, ◌<◌, ◌-◌}
+use Prim.Native.Nat.{◌<◌}
 use native.Mathlib.Omega.{arith}
 use borrow.Author.Rules.{rules}
-use Rattle.tables.specs.RowMajor.{table}
-use Rattle.blocks.specs.Blocks.{nth}
-use Rattle.blocks.proofs.Blocks.{Adding, adding_begins, adding_turns, adding_ends, nth-below, reaches_small, reaches_less}
+use Rattle.blocks.proofs.Blocks.{adding_begins, adding_turns, adding_ends, nth-below, reaches_small, reaches_less}
 use Rattle.blocks.proofs.add_rows.Goals as goal
 use Rattle.blocks.proofs.add_rows.Goals.{After-nth-k}
 

@@ -1,10 +1,8 @@
 -- `blocks::add_rows` meets its contract: after q turns q rows are added. Assumes nothing.
-use Prim.Native.Nat.{◌≤◌, ◌<◌, ◌-◌}
-use native.Mathlib.Omega.{arith}
-use borrow.Author.Rules.{rules}
+use Prim.Native.Nat.{◌≤◌, ◌-◌}
 use Rattle.tables.specs.RowMajor.{table}
 use Rattle.blocks.specs.Blocks.{nth}
-use Rattle.blocks.proofs.Blocks.{Adding, adding_begins, adding_turns, adding_ends, nth-below, reaches_small, reaches_less}
+use Rattle.blocks.proofs.Blocks.{Adding}
 use Rattle.blocks.proofs.add_rows.Given as goal
 
 abbrev pub invariant-loop-q : goal.invariant-loop-q

@@ -1,5 +1,4 @@
 -- `blocks::nth` meets its contract. Assumes nothing.
-use borrow.Author.Rules.{rules}
 use Rattle.blocks.specs.Blocks.{nth}
 use Rattle.blocks.proofs.nth.Goals as goal
 

@@ -1,6 +1,5 @@
 -- `blocks::store` meets its contract: place after place. Assumes nothing.
 use mathlib.Core.Path.{refl}
-use borrow.Author.Rules.{rules}
 use Rattle.tables.proofs.Loops.{along_begins, along_turns, along_next}
 use Rattle.blocks.proofs.store.Goals as goal
 

@@ -1,5 +1,4 @@
 -- `bounds::least` meets its contract: the rest of the row after the fours. Assumes nothing.
-use borrow.Author.Rules.{rules}
 use Rattle.bounds.proofs.Bounds.{least_joins}
 use Rattle.bounds.proofs.least.Goals as goal
 

@@ -1,9 +1,6 @@
 -- `bounds::least_of_few` meets its contract: at column j the numbers before it are bounded. Assumes nothing.
-use Prim.Native.Nat.{◌≤◌, ◌-◌}
 use native.Mathlib.Omega.{arith}
 use borrow.Author.Rules.{rules}
-use Rattle.tables.specs.RowMajor.{table}
-use Rattle.bounds.specs.Bounds.{Least}
 use Rattle.bounds.proofs.Bounds.{least_begins, least_turns, least_ends}
 use Rattle.bounds.proofs.least_of_few.Goals as goal
 

@@ -1,9 +1,7 @@
 -- `bounds::least_of_fours` meets its contract: at turn g four times g numbers are bounded. Assumes nothing.
-use Prim.Native.Nat.{◌+◌, ◌*◌, ◌-◌, ◌≤◌}
 use native.Mathlib.Omega.{arith}
 use borrow.Author.Rules.{rules}
-use Rattle.tables.specs.RowMajor.{table}
-use Rattle.bounds.proofs.Fours.{FourLeast, four_begins, four_turns, four_ends}
+use Rattle.bounds.proofs.Fours.{four_begins, four_turns, four_ends}
 use Rattle.bounds.proofs.least_of_fours.Goals as goal
 
 pub loop-g-preserved : goal.loop-g-preserved

@@ -1,9 +1,7 @@
 -- `bounds::least_of_fours` meets its contract: at turn g four times g numbers are bounded. Assumes nothing.
 use Prim.Native.Nat.{◌+◌, ◌*◌, ◌-◌, ◌≤◌}
-use native.Mathlib.Omega.{arith}
-use borrow.Author.Rules.{rules}
 use Rattle.tables.specs.RowMajor.{table}
-use Rattle.bounds.proofs.Fours.{FourLeast, four_begins, four_turns, four_ends}
+use Rattle.bounds.proofs.Fours.{FourLeast}
 use Rattle.bounds.proofs.least_of_fours.Given as goal
 
 abbrev pub invariant-loop-g : goal.invariant-loop-g

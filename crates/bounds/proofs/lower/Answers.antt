@@ -1,5 +1,4 @@
 -- `bounds::lower` meets its contract. Assumes nothing.
-use borrow.Author.Rules.{rules}
 use Rattle.bounds.proofs.Bounds.{lowered_is}
 use Rattle.bounds.proofs.lower.Goals as goal
 

@@ -1,5 +1,4 @@
 -- `bounds::lower_four` meets its contract: each bound made lower for its own number. Assumes nothing.
-use borrow.Author.Rules.{rules}
 use Rattle.bounds.proofs.lower_four.Goals as goal
 
 pub returns : goal.returns

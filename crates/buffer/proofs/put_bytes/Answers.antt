@@ -1,12 +1,12 @@
 -- `buffer::put_bytes` meets its contract. The loop's invariant: the first k bytes are written. Assumes nothing.
-use Prim.Native.Nat.{ℕ, ◌+◌, ◌-◌, ◌≤◌, ◌<◌}
+use Prim.Native.Nat.{ℕ, ◌+◌, ◌<◌}
 use native.Mathlib.Omega.{arith}
 use mathlib.Core.List.{List, [], ◌∷◌}
 use lib.ListN.{length, take, get_or}
 use lib.Seq.{take-suc, take-length, take_all}
 use Rattle.buffer.specs.Pasted.{Room, Written}
 use Rattle.buffer.proofs.Growing.{Turn, turn}
-use Rattle.buffer.proofs.Pasting.{written_nothing, length_written}
+use Rattle.buffer.proofs.Pasting.{written_nothing}
 use Rattle.buffer.proofs.put_bytes.Goals as goal
 
 -- A turn writes one byte more of the text.

@@ -1,12 +1,7 @@
 -- `buffer::put_bytes` meets its contract. The loop's invariant: the first k bytes are written. Assumes nothing.
-use Prim.Native.Nat.{ℕ, ◌+◌, ◌-◌, ◌≤◌, ◌<◌}
-use native.Mathlib.Omega.{arith}
-use mathlib.Core.List.{List, [], ◌∷◌}
-use lib.ListN.{length, take, get_or}
-use lib.Seq.{take-suc, take-length, take_all}
-use Rattle.buffer.specs.Pasted.{Room, Written}
-use Rattle.buffer.proofs.Growing.{Turn, turn}
-use Rattle.buffer.proofs.Pasting.{written_nothing, length_written}
+use Prim.Native.Nat.{◌-◌, ◌≤◌}
+use lib.ListN.{length, take}
+use Rattle.buffer.specs.Pasted.{Written}
 use Rattle.buffer.proofs.put_bytes.Given as goal
 
 abbrev pub invariant-loop-k : goal.invariant-loop-k

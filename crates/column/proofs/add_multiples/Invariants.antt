@@ -1,14 +1,10 @@
 -- `column::add_multiples` meets its contract: at row i the rows from `from` before it are done. Assumes nothing.
-use mathlib.Core.Path.{refl, ap₂, ◌∙◌}
 use Prim.Native.Nat.{◌≤◌, ◌-◌}
-use native.Mathlib.Omega.{arith}
-use borrow.Author.Rules.{rules}
 use Rattle.definitions.specs.Numbers.{◌⊕◌, ◌⊗◌}
 use Rattle.tables.specs.RowMajor.{table}
 use Rattle.tables.specs.Vectors.{vector}
-use Rattle.steps.proofs.AddProduct.{step_same}
-use Rattle.tables.proofs.Vectors.{AlongVector, vector_begins, vector_due, vector_turns, vector_ends}
-use Rattle.steps.proofs.Gathering.{Gathered, gathered_begins, gathered_turns, gathered_ends}
+use Rattle.tables.proofs.Vectors.{AlongVector}
+use Rattle.steps.proofs.Gathering.{Gathered}
 use Rattle.column.specs.ColumnSteps.{large_product}
 use Rattle.column.proofs.add_multiples.Given as goal
 

@@ -1,10 +1,6 @@
 -- `column::downward_steps` meets its contract: at stage k the stages from j before it are done. Assumes nothing.
-use Prim.Native.Nat.{◌≤◌, ◌-◌}
 use native.Mathlib.Omega.{arith}
-use borrow.Author.Rules.{rules}
-use Rattle.tables.specs.RowMajor.{table}
-use Rattle.tables.specs.Vectors.{vector}
-use Rattle.column.proofs.ColumnStages.{Downs, downs_begin, downs_turn, downs_end}
+use Rattle.column.proofs.ColumnStages.{downs_begin, downs_turn, downs_end}
 use Rattle.column.proofs.downward_steps.Goals as goal
 
 pub add_multiples-large-requires : goal.add_multiples-large-requires

@@ -1,6 +1,5 @@
 -- `column::identity` meets its contract. Assumes nothing.
 use lib.Ieee.{of_bits}
-use borrow.Author.Rules.{rules}
 use Rattle.column.proofs.ColumnStages.{unit-put, unit-none}
 use Rattle.column.proofs.identity.Goals as goal
 

@@ -1,14 +1,10 @@
 -- `column::quotients` meets its contract: at row i the rows before it are divided and tested. Assumes nothing.
-use mathlib.Core.Path.{refl, ap₂, ◌∙◌}
 use Prim.Native.Nat.{◌≤◌, ◌-◌}
-use native.Mathlib.Omega.{arith}
-use borrow.Author.Rules.{rules}
 use Rattle.definitions.specs.Numbers.{◌⊘◌, div_in_range}
-use Rattle.rounding.proofs.ResultRange.{quotient_test}
 use Rattle.tables.specs.RowMajor.{table}
 use Rattle.tables.specs.Vectors.{vector}
-use Rattle.tables.proofs.Vectors.{AlongVector, vector_begins, vector_due, vector_turns, vector_ends}
-use Rattle.steps.proofs.Gathering.{Gathered, gathered_begins, gathered_turns, gathered_all}
+use Rattle.tables.proofs.Vectors.{AlongVector}
+use Rattle.steps.proofs.Gathering.{Gathered}
 use Rattle.column.proofs.quotients.Given as goal
 
 abbrev pub invariant-loop-i : goal.invariant-loop-i

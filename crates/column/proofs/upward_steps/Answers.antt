@@ -1,11 +1,9 @@
 -- `column::upward_steps` meets its contract: q stages are done. Assumes nothing.
 use mathlib.Core.Path.{◌≡◌}
-use Prim.Native.Nat.{suc, ◌+◌, ◌≤◌, ◌-◌}
+use Prim.Native.Nat.{suc, ◌+◌, ◌-◌}
 use native.Mathlib.Omega.{arith}
 use borrow.Author.Rules.{rules}
-use Rattle.tables.specs.RowMajor.{table}
-use Rattle.tables.specs.Vectors.{vector}
-use Rattle.column.proofs.ColumnStages.{Ups, ups_begin, ups_turn, ups_end}
+use Rattle.column.proofs.ColumnStages.{ups_begin, ups_turn, ups_end}
 use Rattle.column.proofs.upward_steps.Goals as goal
 
 pub add_multiples-large-requires : goal.add_multiples-large-requires

@@ -1,11 +1,8 @@
 -- `column::upward_steps` meets its contract: q stages are done. Assumes nothing.
-use mathlib.Core.Path.{◌≡◌}
-use Prim.Native.Nat.{suc, ◌+◌, ◌≤◌, ◌-◌}
-use native.Mathlib.Omega.{arith}
-use borrow.Author.Rules.{rules}
+use Prim.Native.Nat.{◌≤◌, ◌-◌}
 use Rattle.tables.specs.RowMajor.{table}
 use Rattle.tables.specs.Vectors.{vector}
-use Rattle.column.proofs.ColumnStages.{Ups, ups_begin, ups_turn, ups_end}
+use Rattle.column.proofs.ColumnStages.{Ups}
 use Rattle.column.proofs.upward_steps.Given as goal
 
 abbrev pub invariant-loop-q : goal.invariant-loop-q

@@ -1,6 +1,5 @@
 -- `column_planner::column_of_sheet` meets its contract. Assumes nothing.
 use native.Mathlib.Omega.{arith}
-use borrow.Author.Rules.{rules}
 use lib.ListN.{length}
 use Prim.Native.Nat.{◌≤◌}
 use Rattle.rounding.proofs.Words.{zero_word}

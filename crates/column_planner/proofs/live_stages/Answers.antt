@@ -1,5 +1,4 @@
 -- `column_planner::live_stages` meets its contract. Assumes nothing.
-use borrow.Author.Rules.{rules}
 use borrow.Author.Tests.{not-true, not-false}
 use native.Mathlib.Omega.{arith}
 use Rattle.rounding.proofs.Words.{zero_word}

@@ -1,5 +1,4 @@
 -- `column_planner::one_column` meets its contract. Assumes nothing.
-use borrow.Author.Rules.{rules}
 use mir.Syntax.{w64}
 use mir.ValLaws.{to_z-of_z}
 use Rattle.answers.proofs.Outcome.{passed, refused}

@@ -1,6 +1,5 @@
 -- `column_planner::steps` meets its contract. Assumes nothing.
 use mathlib.Core.Path.{sym, ◌∙◌}
-use borrow.Author.Rules.{rules}
 use borrow.Author.Tests.{not-false}
 use Rattle.column_planner.proofs.steps.Goals as goal
 

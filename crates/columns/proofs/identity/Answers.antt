@@ -1,14 +1,11 @@
 -- `columns::identity` meets its contract: at row i the rows before it are done. Assumes nothing.
 use mathlib.Core.Path.{refl, ap}
-use Prim.Native.Nat.{◌≤◌, ◌-◌}
 use native.Mathlib.Omega.{arith}
 use lib.Ieee.{of_bits}
 use borrow.Author.Rules.{rules}
-use Rattle.tables.specs.RowMajor.{table}
-use Rattle.tables.specs.Operators.{between}
-use Rattle.passes.specs.RowPass.{identity_row, identity_rows}
+use Rattle.passes.specs.RowPass.{identity_rows}
 use Rattle.columns.proofs.IdentityRows.{unit_row_lem}
-use Rattle.tables.proofs.Loops.{Down, down_begins, down_puts, down_ends}
+use Rattle.tables.proofs.Loops.{down_begins, down_puts, down_ends}
 use Rattle.columns.proofs.identity.Goals as goal
 
 pub loop-i-preserved : goal.loop-i-preserved

@@ -1,15 +1,8 @@
 -- `columns::pass` meets its contract: before turn s the rows of the turns before it are done and told. Assumes nothing.
-use mathlib.Core.Path.{refl}
 use Prim.Native.Nat.{◌≤◌, ◌<◌, ◌-◌}
-use native.Mathlib.Omega.{arith}
-use lib.Ieee.{of_bits}
-use borrow.Author.Rules.{rules}
 use Rattle.tables.specs.RowMajor.{table}
-use Rattle.bounds.proofs.Bounds.{bound-one}
-use Rattle.passes.specs.RowPass.{turn, reach}
-use Rattle.passes.proofs.Told.{ToldEach, told_turns}
-use Rattle.turns.proofs.Turns.{turn_below, reach-below}
-use Rattle.columns.proofs.Passing.{Passing, turn_test, TurnFinite, passing_begins, told_begins_pass, all_covered, turn_told, turn_done, passing_skips, passing_ends}
+use Rattle.passes.proofs.Told.{ToldEach}
+use Rattle.columns.proofs.Passing.{Passing, turn_test, TurnFinite}
 use Rattle.columns.proofs.pass.Given as goal
 
 abbrev pub invariant-loop-s : goal.invariant-loop-s

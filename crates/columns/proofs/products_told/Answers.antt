@@ -1,12 +1,10 @@
 -- `columns::products_told` meets its contract: at turn q the turns before it are tested. Assumes nothing.
 use mathlib.Core.Path.{refl}
-use Prim.Native.Nat.{◌≤◌, ◌<◌, ◌-◌}
+use Prim.Native.Nat.{◌<◌}
 use native.Mathlib.Omega.{arith}
 use borrow.Author.Rules.{rules}
 use Rattle.tables.specs.RowMajor.{table}
-use Rattle.steps.proofs.Gathering.{Gathered, gathered_begins, gathered_turns, gathered_all}
-use Rattle.passes.specs.RowPass.{turn, reach}
-use Rattle.ranges.specs.Quick.{products_at}
+use Rattle.steps.proofs.Gathering.{gathered_begins, gathered_turns, gathered_all}
 use Rattle.ranges.proofs.Multiples.{products_at_lem}
 use Rattle.turns.proofs.Turns.{turn_below, reach-below}
 use Rattle.columns.proofs.products_told.Goals as goal

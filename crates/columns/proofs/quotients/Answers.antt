@@ -1,16 +1,14 @@
 -- `columns::quotients` meets its contract: at row i the rows before it are divided and tested. Assumes nothing.
 use mathlib.Core.Path.{refl, ◌∙◌}
-use Prim.Native.Nat.{◌≤◌, ◌-◌}
 use native.Mathlib.Nat.{le_refl}
 use native.Mathlib.Omega.{arith}
 use borrow.Author.Rules.{rules}
-use Rattle.definitions.specs.Numbers.{all}
 use Rattle.tables.specs.RowMajor.{table}
 use Rattle.tables.specs.Operators.{between, span}
-use Rattle.tables.specs.Rows.{over, over_in_range}
+use Rattle.tables.specs.Rows.{over}
 use Rattle.passes.specs.RowPass.{divided_rows, quotients_in_range}
-use Rattle.steps.proofs.Gathering.{Gathered, gathered_begins, gathered_turns, gathered_all}
-use Rattle.tables.proofs.Loops.{Down, down_begins, down_due, down_turns, down_ends}
+use Rattle.steps.proofs.Gathering.{gathered_begins, gathered_turns, gathered_all}
+use Rattle.tables.proofs.Loops.{down_begins, down_due, down_turns, down_ends}
 use Rattle.tables.proofs.Rows.{row-over_same}
 use Rattle.columns.proofs.quotients.Goals as goal
 

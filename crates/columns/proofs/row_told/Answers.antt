@@ -1,7 +1,6 @@
 -- `columns::row_told` meets its contract. Assumes nothing.
 use Prim.Native.Nat.{◌≤◌}
 use native.Mathlib.Omega.{arith}
-use borrow.Author.Rules.{rules}
 use Rattle.tables.specs.RowMajor.{table}
 use Rattle.passes.specs.RowPass.{turn, reach}
 use Rattle.ranges.proofs.PassTests.{staged_by_products, staged_by_bound}

@@ -1,10 +1,8 @@
 -- `compact::find` meets its contract: stage i is at no place before q. Assumes nothing.
-use mathlib.Core.Path.{◌≡◌, sym, ◌∙◌}
-use Prim.Native.Nat.{ℕ, ◌≤◌, ◌<◌, ◌-◌}
+use mathlib.Core.Path.{sym, ◌∙◌}
 use native.Mathlib.Omega.{arith}
 use borrow.Author.Count.{below_more}
 use borrow.Author.Rules.{rules}
-use Rattle.compact.specs.Listing.{stage_at}
 use Rattle.compact.proofs.find.Goals as goal
 
 pub returns-then-stage-i : goal.returns-then-stage-i

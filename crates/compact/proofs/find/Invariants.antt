@@ -1,9 +1,6 @@
 -- `compact::find` meets its contract: stage i is at no place before q. Assumes nothing.
-use mathlib.Core.Path.{◌≡◌, sym, ◌∙◌}
+use mathlib.Core.Path.{◌≡◌}
 use Prim.Native.Nat.{ℕ, ◌≤◌, ◌<◌, ◌-◌}
-use native.Mathlib.Omega.{arith}
-use borrow.Author.Count.{below_more}
-use borrow.Author.Rules.{rules}
 use Rattle.compact.specs.Listing.{stage_at}
 use Rattle.compact.proofs.find.Given as goal
 

@@ -1,10 +1,6 @@
 -- `compact::list` meets its contract: at stage i the stages before it are listed. Assumes nothing.
 use Prim.Native.Nat.{◌≤◌, ◌-◌}
-use native.Mathlib.Omega.{arith}
-use borrow.Author.Rules.{rules}
-use native.Mathlib.Numerals.{add-one}
 use Rattle.compact.specs.Listing.{marked, Listing}
-use Rattle.compact.proofs.Listings.{listing_none, listing_all}
 use Rattle.compact.proofs.list.Given as goal
 
 abbrev pub invariant-loop-i : goal.invariant-loop-i

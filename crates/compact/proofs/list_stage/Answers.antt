@@ -1,6 +1,5 @@
 -- `compact::list_stage` meets its contract. Assumes nothing.
 use native.Mathlib.Omega.{arith}
-use borrow.Author.Rules.{rules}
 use Rattle.compact.specs.Listing.{marked}
 use Rattle.compact.proofs.Listings.{listing_room, listing_take, listing_leave}
 use Rattle.compact.proofs.list_stage.Goals as goal

@@ -1,11 +1,9 @@
 -- `compact::pack` meets its contract: at place p the rows before it are done. Assumes nothing.
 use mathlib.Core.Path.{refl}
-use Prim.Native.Nat.{◌≤◌, ◌-◌}
 use native.Mathlib.Omega.{arith}
 use borrow.Author.Rules.{rules}
 use Rattle.tables.specs.RowMajor.{table}
-use Rattle.tables.specs.Operators.{between}
-use Rattle.tables.proofs.Loops.{Down, down_begins, down_spans, down_ends}
+use Rattle.tables.proofs.Loops.{down_begins, down_spans, down_ends}
 use Rattle.compact.specs.Listing.{stage_at}
 use Rattle.compact.proofs.Packing.{packed_all}
 use Rattle.compact.proofs.pack.Goals as goal

@@ -1,12 +1,8 @@
 -- `compact::pack_row` meets its contract: at place q the places before it are done. Assumes nothing.
-use mathlib.Core.Path.{refl, ◌∙◌}
 use Prim.Native.Nat.{◌≤◌, ◌-◌}
-use native.Mathlib.Omega.{arith}
-use borrow.Author.Rules.{rules}
 use Rattle.tables.specs.RowMajor.{table}
-use Rattle.tables.proofs.Loops.{Along, along_begins, along_turns, along_ends}
+use Rattle.tables.proofs.Loops.{Along}
 use Rattle.compact.specs.Listing.{stage_at}
-use Rattle.compact.proofs.Listings.{stage-below}
 use Rattle.compact.proofs.pack_row.Given as goal
 
 abbrev pub invariant-loop-q : goal.invariant-loop-q

@@ -1,11 +1,8 @@
 -- `compact::unpack` meets its contract: at place p the rows before it are done. Assumes nothing.
 use Prim.Native.Nat.{◌≤◌, ◌-◌}
-use native.Mathlib.Omega.{arith}
-use borrow.Author.Rules.{rules}
 use Rattle.tables.specs.RowMajor.{table}
 use Rattle.compact.specs.Listing.{stage_at}
 use Rattle.compact.specs.Compact.{Unpacked}
-use Rattle.compact.proofs.Packing.{rows_begin, rows-turn, rows_end}
 use Rattle.compact.proofs.unpack.Given as goal
 
 abbrev pub invariant-loop-p : goal.invariant-loop-p

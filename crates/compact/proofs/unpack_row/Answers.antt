@@ -1,10 +1,6 @@
 -- `compact::unpack_row` meets its contract: at place q the places before it are done. Assumes nothing.
-use Prim.Native.Nat.{◌≤◌, ◌-◌}
 use native.Mathlib.Omega.{arith}
 use borrow.Author.Rules.{rules}
-use Rattle.tables.specs.RowMajor.{table}
-use Rattle.compact.specs.Listing.{stage_at}
-use Rattle.compact.specs.Compact.{UnpackedRow}
 use Rattle.compact.proofs.Listings.{stage-below}
 use Rattle.compact.proofs.Packing.{row_begins, row_turns, row_ends}
 use Rattle.compact.proofs.unpack_row.Goals as goal

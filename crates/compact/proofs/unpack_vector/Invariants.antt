@@ -1,12 +1,8 @@
 -- `compact::unpack_vector` meets its contract: at place q the places before it are done. Assumes nothing.
 use Prim.Native.Nat.{◌≤◌, ◌-◌}
-use native.Mathlib.Omega.{arith}
-use borrow.Author.Rules.{rules}
 use Rattle.tables.specs.Vectors.{vector}
 use Rattle.compact.specs.Listing.{stage_at}
 use Rattle.compact.specs.Compact.{UnpackedVector}
-use Rattle.compact.proofs.Listings.{stage-below}
-use Rattle.compact.proofs.Packing.{vector_begins, vector_turns, vector_ends}
 use Rattle.compact.proofs.unpack_vector.Given as goal
 
 abbrev pub invariant-loop-q : goal.invariant-loop-q

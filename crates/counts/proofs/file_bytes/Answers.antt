@@ -1,5 +1,4 @@
 -- `counts::file_bytes` meets its contract. Assumes nothing.
-use borrow.Author.Rules.{rules}
 use native.Mathlib.Omega.{arith}
 use Rattle.counts.proofs.Counts.{bytes_small, bytes_with, bytes_without}
 use Rattle.counts.proofs.file_bytes.Goals as goal

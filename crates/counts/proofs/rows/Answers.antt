@@ -1,5 +1,4 @@
 -- `counts::rows` meets its contract. Assumes nothing.
-use borrow.Author.Rules.{rules}
 use Rattle.counts.proofs.Counts.{rows_with, rows_without}
 use Rattle.counts.proofs.rows.Goals as goal
 

@@ -1,10 +1,8 @@
 -- `digits::digit_count` meets its contract. The loop's invariant: the digits counted and those of the rest are one more than all digits. Assumes nothing.
 use mathlib.Core.Path.{◌≡◌}
 use Prim.Native.Nat.{◌+◌, ◌≤◌}
-use native.Mathlib.Omega.{arith}
 use lib.ListN.{length}
 use Rattle.definitions.specs.Dwell.{decimal}
-use Rattle.digits.proofs.Digits.{decimal-at-most, length-decimal-one, length-decimal_more}
 use Rattle.digits.proofs.digit_count.Given as goal
 
 abbrev pub invariant-loop-rest : goal.invariant-loop-rest

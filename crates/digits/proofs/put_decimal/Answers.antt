@@ -1,12 +1,10 @@
 -- `digits::put_decimal` meets its contract. The loop's invariant: pasting the digits of the rest gives what pasting all of them gave at the start.
-use borrow.Author.Rules.{rules}
 use mathlib.Core.Path.{◌≡◌, refl, sym, ◌∙◌}
-use Prim.Native.Nat.{◌+◌, ◌/◌, ◌^◌, ◌≤◌, ◌<◌}
+use Prim.Native.Nat.{◌+◌, ◌/◌, ◌^◌, ◌<◌}
 use native.Mathlib.Omega.{arith}
 use mathlib.Core.List.{[]}
 use lib.ListN.{length, length-set}
 use Rattle.definitions.specs.Dwell.{decimal}
-use Rattle.buffer.specs.Pasted.{pasted}
 use Rattle.buffer.proofs.Pasting.{pasted-last, pasted_nothing}
 use Rattle.digits.proofs.Digits.{decimal-one, decimal_more, decimal_some, length-decimal-one, length-decimal_more}
 use Rattle.digits.proofs.put_decimal.Goals as goal

@@ -1,5 +1,4 @@
 -- `digits::put_field` meets its contract: two writers in a row. Assumes nothing.
-use borrow.Author.Rules.{rules}
 use mathlib.Core.List.{[], ◌∷◌}
 use Rattle.definitions.specs.Dwell.{decimal}
 use Rattle.buffer.proofs.Pasting.{room_first, room_next, written_next}

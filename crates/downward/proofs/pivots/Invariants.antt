@@ -1,12 +1,9 @@
 -- `downward::pivots` meets its contract: at stage k the places before it are filled. Assumes nothing.
-use mathlib.Core.Path.{refl}
 use Prim.Native.Nat.{◌≤◌, ◌-◌}
-use native.Mathlib.Omega.{arith}
-use borrow.Author.Rules.{rules}
 use Rattle.tables.specs.RowMajor.{table}
 use Rattle.tables.specs.Vectors.{vector}
 use Rattle.downward.specs.Downward.{on_diagonal}
-use Rattle.tables.proofs.Vectors.{AlongVector, vector_begins, vector_turns, vector_ends}
+use Rattle.tables.proofs.Vectors.{AlongVector}
 use Rattle.downward.proofs.pivots.Given as goal
 
 abbrev pub invariant-loop-k : goal.invariant-loop-k

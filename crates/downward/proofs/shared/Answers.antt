@@ -1,5 +1,4 @@
 -- `downward::shared` meets its contract. Assumes nothing.
-use borrow.Author.Rules.{rules}
 use Rattle.tables.specs.RowMajor.{table}
 use Rattle.passes.specs.Weights.{weights_in}
 use Rattle.downward.proofs.Downward.{shared-table}

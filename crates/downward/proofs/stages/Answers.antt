@@ -1,10 +1,8 @@
 -- `downward::stages` meets its contract: at stage k the stages before it are done. Assumes nothing.
-use Prim.Native.Nat.{◌≤◌, ◌-◌}
 use native.Mathlib.Omega.{arith}
 use borrow.Author.Rules.{rules}
-use Rattle.tables.specs.RowMajor.{table}
 use Rattle.passes.specs.Weights.{weights_in}
-use Rattle.passes.proofs.FiniteStages.{StagesTold, stages_begin, stages-turn, pair_turn, stages_end}
+use Rattle.passes.proofs.FiniteStages.{stages_begin, stages-turn, pair_turn, stages_end}
 use Rattle.downward.proofs.stages.Goals as goal
 
 pub eliminate_pair-told-requires : goal.eliminate_pair-told-requires

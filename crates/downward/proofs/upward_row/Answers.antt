@@ -1,15 +1,13 @@
 -- `downward::upward_row` meets its contract: at column k the columns before it are done. Assumes nothing.
 use mathlib.Core.Path.{◌∙◌}
-use Prim.Native.Nat.{◌≤◌, ◌-◌, suc}
 use native.Mathlib.Numerals.{add-one}
 use native.Mathlib.Omega.{arith}
 use borrow.Author.Rules.{rules}
 use Rattle.rounding.proofs.ResultRange.{quotient_test}
 use Rattle.tables.specs.RowMajor.{table}
-use Rattle.definitions.specs.Numbers.{div_in_range}
-use Rattle.passes.specs.Stages.{over_pivot, upward_row_in_range}
-use Rattle.steps.proofs.Gathering.{Gathered, gathered_begins, gathered_turns, gathered_ends}
-use Rattle.tables.proofs.Loops.{Along, along_begins, along_due, along_turns, along_ends}
+use Rattle.passes.specs.Stages.{upward_row_in_range}
+use Rattle.steps.proofs.Gathering.{gathered_begins, gathered_turns, gathered_ends}
+use Rattle.tables.proofs.Loops.{along_begins, along_due, along_turns, along_ends}
 use Rattle.downward.proofs.Downward.{over-pivot, over-pivot_test}
 use Rattle.downward.proofs.upward_row.Goals as goal
 

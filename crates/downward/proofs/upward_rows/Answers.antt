@@ -1,14 +1,13 @@
 -- `downward::upward_rows` meets its contract: at row i the rows before it are done. Assumes nothing.
 use mathlib.Core.Path.{refl, ◌∙◌}
-use Prim.Native.Nat.{◌≤◌, ◌-◌, suc}
 use native.Mathlib.Omega.{arith}
 use borrow.Author.Rules.{rules}
 use Rattle.tables.specs.RowMajor.{table}
-use Rattle.tables.specs.Operators.{between, span}
-use Rattle.passes.specs.Stages.{over_pivot, upward_rows, upward_row_in_range}
+use Rattle.tables.specs.Operators.{span}
+use Rattle.passes.specs.Stages.{upward_rows}
 use Rattle.downward.proofs.Downward.{pivots_due, upward_same, upward_test_same}
-use Rattle.steps.proofs.Gathering.{Gathered, gathered_begins, gathered_turns, gathered_all}
-use Rattle.tables.proofs.Loops.{Down, down_begins, down_due, down_turns, down_ends}
+use Rattle.steps.proofs.Gathering.{gathered_begins, gathered_turns, gathered_all}
+use Rattle.tables.proofs.Loops.{down_begins, down_due, down_turns, down_ends}
 use Rattle.downward.proofs.upward_rows.Goals as goal
 
 pub loop-i-init : goal.loop-i-init

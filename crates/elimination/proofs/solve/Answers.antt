@@ -1,5 +1,4 @@
 -- `elimination::solve` meets its contract. Assumes nothing.
-use borrow.Author.Rules.{rules}
 use borrow.Author.Tests.{not-true, not-false}
 use Rattle.tables.specs.RowMajor.{table}
 use Rattle.passes.specs.Weights.{weights_in}

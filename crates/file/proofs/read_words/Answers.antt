@@ -1,5 +1,4 @@
 -- `file::read_words` meets its contract: a sheet's numbers are written, and a refusal leaves the area as it was. Assumes nothing.
-use borrow.Author.Rules.{rules}
 use lib.ListN.{length}
 use Rattle.definitions.specs.File.{file_words, file_word_area}
 use Rattle.file.proofs.Reading.{to_fill, sheet_read, refusal_read}
@@ -13,12 +12,12 @@ pub returns-in-Sheet : goal.returns-in-Sheet
 unfolding file_word_area
 returns-in-Sheet c =
     let p =
-        sheet_read c.args.bytes.now (length c.args.area.now) c.judge-answer.ensures c.in-Sheet.is (file_words c.args.bytes.now) c.args.area.now c.fill_words.ensures in
+    sheet_read c.args.bytes.now (length c.args.area.now) c.judge-answer.ensures c.in-Sheet.is (file_words c.args.bytes.now) c.args.area.now c.fill_words.ensures in
     record { result_value = p.0; area_after = p.1 }
 
 pub returns-in_default : goal.returns-in_default
 unfolding file_word_area
 returns-in_default c =
     let p =
-        refusal_read c.args.bytes.now (length c.args.area.now) c.judge-answer.ensures (file_words c.args.bytes.now) c.args.area.now c.in_default.is in
+    refusal_read c.args.bytes.now (length c.args.area.now) c.judge-answer.ensures (file_words c.args.bytes.now) c.args.area.now c.in_default.is in
     record { result_value = p.0; area_after = p.1 }

@@ -1,5 +1,4 @@
 -- `file::save_numbers` meets its contract. Assumes nothing.
-use borrow.Author.Rules.{rules}
 use mir.Syntax.{w64}
 use mir.ValLaws.{to_z-of_z}
 use Rattle.definitions.specs.Saving.{sheet_words, saved_numbers}
@@ -12,7 +11,7 @@ pub returns-then-number-ne0 : goal.returns-then-number-ne0
 unfolding saved_numbers
 returns-then-number-ne0 c =
     let p =
-        not_saved_lem c.args.reading c.args.n c.args.e (sheet_words c.args.sheet.now) c.args.area.now (length_sheet_words c.args.sheet.now) (rw (to_z-of_z w64 c.args.e c.ranges.e) at c.ask_save-number.ensures) c.if-number-ne0.true c.not_saved.ensures in
+    not_saved_lem c.args.reading c.args.n c.args.e (sheet_words c.args.sheet.now) c.args.area.now (length_sheet_words c.args.sheet.now) (rw (to_z-of_z w64 c.args.e c.ranges.e) at c.ask_save-number.ensures) c.if-number-ne0.true c.not_saved.ensures in
     record { result_value = p.0; area_after = p.1 }
 
 pub put_numbers-length-requires : goal.put_numbers-length-requires
@@ -23,5 +22,5 @@ pub returns : goal.returns
 unfolding saved_numbers
 returns c =
     let p =
-        saved c.args.reading c.args.n c.args.e (sheet_words c.args.sheet.now) c.args.area.now (length_sheet_words c.args.sheet.now) (rw (to_z-of_z w64 c.args.e c.ranges.e) at c.ask_save-number.ensures) c.if-number-ne0.false (rw (to_z-of_z w64 c.args.e c.ranges.e) at c.put_numbers-length.ensures) in
+    saved c.args.reading c.args.n c.args.e (sheet_words c.args.sheet.now) c.args.area.now (length_sheet_words c.args.sheet.now) (rw (to_z-of_z w64 c.args.e c.ranges.e) at c.ask_save-number.ensures) c.if-number-ne0.false (rw (to_z-of_z w64 c.args.e c.ranges.e) at c.put_numbers-length.ensures) in
     record { result_value = p.0; area_after = p.1 }

@@ -1,5 +1,4 @@
 -- `file::save_words` meets its contract. Assumes nothing.
-use borrow.Author.Rules.{rules}
 use mir.Syntax.{w64}
 use mir.ValLaws.{to_z-of_z}
 use mathlib.Core.Path.{refl}
@@ -10,7 +9,7 @@ use Rattle.file.proofs.save_words.Goals as goal
 pub returns-then-number-ne0 : goal.returns-then-number-ne0
 returns-then-number-ne0 c =
     let p =
-        not_saved_lem c.args.reading c.args.n c.args.e c.args.words.now c.args.area.now refl (rw (to_z-of_z w64 c.args.e c.ranges.e) at c.ask_save-number.ensures) c.if-number-ne0.true c.not_saved.ensures in
+    not_saved_lem c.args.reading c.args.n c.args.e c.args.words.now c.args.area.now refl (rw (to_z-of_z w64 c.args.e c.ranges.e) at c.ask_save-number.ensures) c.if-number-ne0.true c.not_saved.ensures in
     record { result_value = p.0; area_after = p.1 }
 
 pub put_sheet-length-requires : goal.put_sheet-length-requires
@@ -20,5 +19,5 @@ put_sheet-length-requires c =
 pub returns : goal.returns
 returns c =
     let p =
-        saved c.args.reading c.args.n c.args.e c.args.words.now c.args.area.now refl (rw (to_z-of_z w64 c.args.e c.ranges.e) at c.ask_save-number.ensures) c.if-number-ne0.false (rw (to_z-of_z w64 c.args.e c.ranges.e) at c.put_sheet-length.ensures) in
+    saved c.args.reading c.args.n c.args.e c.args.words.now c.args.area.now refl (rw (to_z-of_z w64 c.args.e c.ranges.e) at c.ask_save-number.ensures) c.if-number-ne0.false (rw (to_z-of_z w64 c.args.e c.ranges.e) at c.put_sheet-length.ensures) in
     record { result_value = p.0; area_after = p.1 }

@@ -1,5 +1,4 @@
 -- `file_calls::read_numbers` meets its contract. Assumes nothing.
-use borrow.Author.Rules.{rules}
 use Rattle.definitions.specs.File.{file_number_area}
 use Rattle.file_calls.proofs.FileCalls.{file_call}
 use Rattle.file_calls.proofs.read_numbers.Goals as goal

@@ -1,5 +1,4 @@
 -- `file_calls::read_words` meets its contract. Assumes nothing.
-use borrow.Author.Rules.{rules}
 use Rattle.definitions.specs.File.{file_word_area}
 use Rattle.file_calls.proofs.FileCalls.{file_call}
 use Rattle.file_calls.proofs.read_words.Goals as goal

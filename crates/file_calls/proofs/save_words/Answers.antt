@@ -1,5 +1,4 @@
 -- `file_calls::save_words` meets its contract. Assumes nothing.
-use borrow.Author.Rules.{rules}
 use mir.Syntax.{w64}
 use mir.ValLaws.{to_z-of_z}
 use Rattle.definitions.specs.Saving.{saved_words}

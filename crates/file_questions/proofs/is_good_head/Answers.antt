@@ -1,5 +1,4 @@
 -- `file_questions::is_good_head` meets its contract: at each `return` the numbers read so far decide question 12. Assumes nothing.
-use borrow.Author.Rules.{rules}
 use native.Mathlib.Omega.{arith}
 use mathlib.Core.Path.{◌≡◌}
 use Prim.Native.Nat.{◌≤◌}

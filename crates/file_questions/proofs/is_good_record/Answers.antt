@@ -1,5 +1,4 @@
 -- `file_questions::is_good_record` meets its contract: at each `return` the numbers read so far decide question 13. Assumes nothing.
-use borrow.Author.Rules.{rules}
 use native.Mathlib.Omega.{arith}
 use mathlib.Core.Path.{◌≡◌}
 use lib.ListN.{drop}

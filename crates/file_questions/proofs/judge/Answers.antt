@@ -1,9 +1,7 @@
 -- `file_questions::judge` meets its contract. The loop's invariant: all before the record due is good, and the questions left are those from that record on. Assumes nothing.
-use borrow.Author.Rules.{rules}
-use Prim.Native.Nat.{ℕ, ◌+◌, ◌-◌, ◌≤◌}
+use Prim.Native.Nat.{◌≤◌}
 use mathlib.Core.Path.{◌≡◌, ◌∙◌}
 use mathlib.Core.Bool.{true}
-use mathlib.Core.List.{List}
 use lib.ListN.{length, drop}
 use native.Mathlib.Omega.{arith}
 use mir.Syntax.{w64}
@@ -15,7 +13,7 @@ use Rattle.definitions.specs.File.{whole_record, known_head, good_head, good_rec
 use Rattle.exact.proofs.Bools.{denied, granted}
 use Rattle.records.proofs.Records.{whole_room}
 use Rattle.file_questions.proofs.HeadAndRecords.{at_least-four, head_stages_lem}
-use Rattle.file_questions.proofs.Judging.{Judged, head_read, head_cut, head_bad, record_cut, record_bad, bytes_after, at_end, room_short, room_enough, refused_by, given_by, judged_head, judged_record}
+use Rattle.file_questions.proofs.Judging.{head_read, head_cut, head_bad, record_cut, record_bad, bytes_after, at_end, room_short, room_enough, refused_by, given_by, judged_head, judged_record}
 use mathlib.Core.Path.{ap}
 use mathlib.Core.Bool.{not}
 use Rattle.file_questions.proofs.judge.Goals as goal

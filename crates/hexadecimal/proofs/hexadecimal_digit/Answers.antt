@@ -1,5 +1,4 @@
 -- `hexadecimal::hexadecimal_digit` meets its contract. Assumes nothing.
-use borrow.Author.Rules.{rules}
 use borrow.Author.Tests.{lt-ltb, le-ltb}
 use Rattle.hexadecimal.proofs.hexadecimal_digit.Goals as goal
 

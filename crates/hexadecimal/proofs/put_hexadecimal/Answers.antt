@@ -1,10 +1,9 @@
 -- `hexadecimal::put_hexadecimal` meets its contract. The loop's invariant: pasting the digits that are left gives what pasting all of them gave at the start.
 use mathlib.Core.Path.{◌≡◌, refl, ◌∙◌}
-use Prim.Native.Nat.{◌+◌, ◌-◌, ◌/◌, ◌≤◌}
+use Prim.Native.Nat.{◌+◌, ◌-◌, ◌/◌}
 use native.Mathlib.Omega.{arith}
 use lib.ListN.{length, length-set}
 use Rattle.definitions.specs.Dwell.{hexadecimal}
-use Rattle.buffer.specs.Pasted.{pasted}
 use Rattle.buffer.proofs.Pasting.{pasted-last, pasted_nothing}
 use Rattle.digits.proofs.Digits.{hexadecimal-none, hexadecimal_more, length-hexadecimal}
 use Rattle.hexadecimal.proofs.put_hexadecimal.Goals as goal
@@ -34,4 +33,3 @@ returns c =
       bytes = rw (none, hexadecimal-none, pasted_nothing) at c.loop-left.invariant.3;
       place = rw (length-hexadecimal 16 c.args.word);
     }
-

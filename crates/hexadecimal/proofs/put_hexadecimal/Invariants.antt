@@ -1,12 +1,9 @@
 -- `hexadecimal::put_hexadecimal` meets its contract. The loop's invariant: pasting the digits that are left gives what pasting all of them gave at the start.
-use mathlib.Core.Path.{◌≡◌, refl, ◌∙◌}
-use Prim.Native.Nat.{◌+◌, ◌-◌, ◌/◌, ◌≤◌}
-use native.Mathlib.Omega.{arith}
-use lib.ListN.{length, length-set}
+use mathlib.Core.Path.{◌≡◌}
+use Prim.Native.Nat.{◌+◌, ◌≤◌}
+use lib.ListN.{length}
 use Rattle.definitions.specs.Dwell.{hexadecimal}
 use Rattle.buffer.specs.Pasted.{pasted}
-use Rattle.buffer.proofs.Pasting.{pasted-last, pasted_nothing}
-use Rattle.digits.proofs.Digits.{hexadecimal-none, hexadecimal_more, length-hexadecimal}
 use Rattle.hexadecimal.proofs.put_hexadecimal.Given as goal
 
 abbrev pub invariant-loop-left : goal.invariant-loop-left

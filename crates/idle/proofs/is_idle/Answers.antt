@@ -1,12 +1,10 @@
 -- `idle::is_idle` meets its contract: before stage j every number is zero. Assumes nothing.
 use mathlib.Core.Path.{refl, sym, ◌∙◌}
-use mathlib.Core.Bool.{true}
-use Prim.Native.Nat.{◌≤◌, ◌-◌}
 use native.Mathlib.Omega.{arith}
 use borrow.Author.Rules.{rules}
 use borrow.Author.Tests.{not-true, not-false}
-use Rattle.steps.proofs.Gathering.{Gathered, gathered_begins, gathered_turns, gathered_all}
-use Rattle.steps.proofs.LiveStages.{zeros, idle_is}
+use Rattle.steps.proofs.Gathering.{gathered_begins, gathered_turns, gathered_all}
+use Rattle.steps.proofs.LiveStages.{idle_is}
 use Rattle.idle.proofs.Idling.{one_fails, zeros_is}
 use Rattle.idle.proofs.is_idle.Goals as goal
 

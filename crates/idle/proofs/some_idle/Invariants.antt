@@ -1,13 +1,8 @@
 -- `idle::some_idle` meets its contract: every stage before i takes part. Assumes nothing.
-use mathlib.Core.Logic.{⊎_elim}
-use mathlib.Core.Path.{refl, sym, ap, ◌∙◌}
-use mathlib.Core.Bool.{true, not}
+use mathlib.Core.Bool.{true}
 use Prim.Native.Nat.{◌≤◌, ◌-◌}
-use native.Mathlib.Omega.{arith}
-use borrow.Author.Rules.{rules}
 use Rattle.definitions.specs.Sheet.{takes_part}
-use Rattle.steps.proofs.Gathering.{Gathered, gathered_begins, gathered_turns, gathered_all}
-use Rattle.idle.proofs.Idling.{one_fails, told_apart, live_of}
+use Rattle.steps.proofs.Gathering.{Gathered}
 use Rattle.idle.proofs.some_idle.Given as goal
 
 abbrev pub invariant-loop-i : goal.invariant-loop-i

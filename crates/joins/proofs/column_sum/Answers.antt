@@ -1,16 +1,10 @@
 -- `joins::column_sum` meets its contract: at stage l the known stages before it are added and tested. Assumes nothing.
 use mathlib.Core.Path.{sym, ap₂, ◌∙◌}
-use mathlib.Core.Logic.{⊎_elim}
-use Prim.Native.Nat.{◌≤◌, ◌-◌}
 use native.Mathlib.Omega.{arith}
 use borrow.Author.Rules.{rules}
 use Rattle.definitions.specs.Numbers.{◌⊗◌, mul_in_range}
 use Rattle.rounding.proofs.ResultRange.{product_test}
 use Rattle.rounding.proofs.Words.{zero_word}
-use Rattle.tables.specs.RowMajor.{table}
-use Rattle.tables.specs.Vectors.{vector}
-use Rattle.compact.specs.Listing.{marked}
-use Rattle.joins.specs.StageJoin.{knows, KnownSum}
 use Rattle.joins.proofs.ColumnSteps.{known-none, known_adds, known_skips, known-all}
 use Rattle.joins.proofs.column_sum.Goals as goal
 use Rattle.joins.proofs.column_sum.Goals.{then-is_known, else-is_known}
@@ -20,8 +14,8 @@ loop-l-preserved c =
     let h = c.loop-l.invariant.1 in (
       omega arith,
       elim c.if-is_known.branch [
-        then-is_known v ↦ rw (v.sum-is, v.ok-is) (known_adds h (sym c.is_known.ensures ∙ v.if-is_known.true) (ap₂ ◌⊗◌ v.get-y.ensures v.get-z.ensures) (v.result_in_range-step.ensures ∙ product_test v.get-y.result v.get-z.result ∙ ap₂ mul_in_range v.get-y.ensures v.get-z.ensures))
-      | else-is_known v ↦ rw (v.sum-is, v.ok-is) (known_skips h (sym c.is_known.ensures ∙ v.if-is_known.false))
+        | then-is_known v ↦ rw (v.sum-is, v.ok-is) (known_adds h (sym c.is_known.ensures ∙ v.if-is_known.true) (ap₂ ◌⊗◌ v.get-y.ensures v.get-z.ensures) (v.result_in_range-step.ensures ∙ product_test v.get-y.result v.get-z.result ∙ ap₂ mul_in_range v.get-y.ensures v.get-z.ensures))
+        | else-is_known v ↦ rw (v.sum-is, v.ok-is) (known_skips h (sym c.is_known.ensures ∙ v.if-is_known.false))
       ],
     )
 

@@ -1,17 +1,9 @@
 -- `joins::column_sum` meets its contract: at stage l the known stages before it are added and tested. Assumes nothing.
-use mathlib.Core.Path.{sym, ap₂, ◌∙◌}
-use mathlib.Core.Logic.{⊎_elim}
 use Prim.Native.Nat.{◌≤◌, ◌-◌}
-use native.Mathlib.Omega.{arith}
-use borrow.Author.Rules.{rules}
-use Rattle.definitions.specs.Numbers.{◌⊗◌, mul_in_range}
-use Rattle.rounding.proofs.ResultRange.{product_test}
-use Rattle.rounding.proofs.Words.{zero_word}
 use Rattle.tables.specs.RowMajor.{table}
 use Rattle.tables.specs.Vectors.{vector}
 use Rattle.compact.specs.Listing.{marked}
 use Rattle.joins.specs.StageJoin.{knows, KnownSum}
-use Rattle.joins.proofs.ColumnSteps.{known-none, known_adds, known_skips, known-all}
 use Rattle.joins.proofs.column_sum.Given as goal
 
 abbrev pub invariant-loop-l : goal.invariant-loop-l

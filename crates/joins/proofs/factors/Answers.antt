@@ -1,17 +1,13 @@
 -- `joins::factors` meets its contract: at place l the places before it are done and tested. Assumes nothing.
 use mathlib.Core.Path.{refl, ap, ap₂, ◌∙◌}
 use mathlib.Core.Bool.{not, ◌||◌}
-use Prim.Native.Nat.{◌≤◌, ◌-◌}
 use native.Mathlib.Omega.{arith}
 use borrow.Author.Rules.{rules}
 use Rattle.definitions.specs.Numbers.{◌⊘◌, div_in_range}
 use Rattle.rounding.proofs.ResultRange.{quotient_test}
-use Rattle.steps.proofs.Gathering.{Gathered, gathered_begins, gathered_turns, gathered_all}
-use Rattle.tables.specs.RowMajor.{table}
-use Rattle.tables.specs.Vectors.{vector}
-use Rattle.tables.proofs.Vectors.{AlongVector, vector_begins, vector_turns, vector_ends}
-use Rattle.compact.specs.Listing.{marked}
-use Rattle.joins.specs.StageJoin.{knows, factors_of, factors_in_range}
+use Rattle.steps.proofs.Gathering.{gathered_begins, gathered_turns, gathered_all}
+use Rattle.tables.proofs.Vectors.{vector_begins, vector_turns, vector_ends}
+use Rattle.joins.specs.StageJoin.{factors_of, factors_in_range}
 use Rattle.joins.proofs.factors.Goals as goal
 
 pub put-requires : goal.put-requires

@@ -1,16 +1,12 @@
 -- `joins::fill_column` meets its contract: at row i the rows before it are done and tested. Assumes nothing.
-use mathlib.Core.Path.{refl, ap, ◌∙◌}
 use mathlib.Core.Bool.{not, ◌||◌}
 use Prim.Native.Nat.{◌≤◌, ◌-◌}
-use native.Mathlib.Nat.{le_refl}
-use native.Mathlib.Omega.{arith}
-use borrow.Author.Rules.{rules}
-use Rattle.steps.proofs.Gathering.{Gathered, gathered_begins, gathered_turns, gathered_all}
+use Rattle.steps.proofs.Gathering.{Gathered}
 use Rattle.tables.specs.RowMajor.{table}
-use Rattle.tables.proofs.Loops.{Down, down_begins, down_due, down_turns, down_ends}
+use Rattle.tables.proofs.Loops.{Down}
 use Rattle.tables.specs.Vectors.{vector}
 use Rattle.compact.specs.Listing.{marked}
-use Rattle.joins.specs.StageJoin.{knows, column_row, place_in_range, column_in_range, column_filled}
+use Rattle.joins.specs.StageJoin.{knows, column_row, place_in_range}
 use Rattle.joins.proofs.fill_column.Given as goal
 
 abbrev pub invariant-loop-i : goal.invariant-loop-i

@@ -1,6 +1,5 @@
 -- `joins::is_known` meets its contract. Assumes nothing.
 use mathlib.Core.Path.{refl}
-use borrow.Author.Rules.{rules}
 use Rattle.joins.specs.StageJoin.{knows}
 use Rattle.joins.proofs.is_known.Goals as goal
 

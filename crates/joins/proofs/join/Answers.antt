@@ -1,6 +1,5 @@
 -- `joins::join` meets its contract. Assumes nothing.
 use mathlib.Core.Path.{ap, ◌∙◌}
-use borrow.Author.Rules.{rules}
 use Rattle.definitions.specs.Numbers.{◌⊘◌, 1·0}
 use Rattle.rounding.proofs.Words.{zero_word, one_word}
 use Rattle.rounding.proofs.ResultRange.{quotient_test}

@@ -1,12 +1,9 @@
 -- `joins::join_stages` meets its contract: after q stages those are done. Assumes nothing.
 use Prim.Native.Nat.{◌≤◌, ◌-◌}
-use native.Mathlib.Omega.{arith}
-use borrow.Author.Rules.{rules}
 use Rattle.tables.specs.RowMajor.{table}
 use Rattle.tables.specs.Vectors.{vector}
 use Rattle.compact.specs.Listing.{marked}
 use Rattle.joins.specs.Joins.{StagesJoin}
-use Rattle.joins.proofs.ColumnSteps.{joins_begin, joins_turn, joins_end}
 use Rattle.joins.proofs.join_stages.Given as goal
 
 abbrev pub invariant-loop-q : goal.invariant-loop-q

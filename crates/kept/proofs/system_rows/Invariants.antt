@@ -1,13 +1,9 @@
 -- `kept::system_rows` meets its contract: at place p the rows before it are done and tested. Assumes nothing.
-use mathlib.Core.Path.{refl, ap, ◌∙◌}
 use Prim.Native.Nat.{◌≤◌, ◌-◌}
-use native.Mathlib.Nat.{le_refl}
-use native.Mathlib.Omega.{arith}
-use borrow.Author.Rules.{rules}
-use Rattle.steps.proofs.Gathering.{Gathered, gathered_begins, gathered_turns, gathered_all}
+use Rattle.steps.proofs.Gathering.{Gathered}
 use Rattle.tables.specs.RowMajor.{table}
 use Rattle.tables.specs.Vectors.{vector}
-use Rattle.tables.proofs.Loops.{Down, down_begins, down_due, down_turns, down_ends}
+use Rattle.tables.proofs.Loops.{Down}
 use Rattle.kept.specs.Scaled.{scaled_row, scaled_row_in_range}
 use Rattle.kept.proofs.system_rows.Given as goal
 

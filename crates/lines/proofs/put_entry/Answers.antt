@@ -1,5 +1,4 @@
 -- `lines::put_entry` meets its contract: four writers in a row write the pieces of the line. Assumes nothing.
-use borrow.Author.Rules.{rules}
 use mathlib.Core.List.{List, [], ◌∷◌, ◌++◌}
 use Prim.Native.Nat.{ℕ}
 use Rattle.definitions.specs.Dwell.{hexadecimal}

@@ -1,13 +1,12 @@
 -- `lines::put_table` meets its contract. The loop's invariant: the first i rows are written. Assumes nothing.
 use mathlib.Core.Path.{◌≡◌}
-use Prim.Native.Nat.{ℕ, ◌+◌, ◌-◌, ◌≤◌, ◌<◌}
+use Prim.Native.Nat.{ℕ, ◌+◌, ◌<◌}
 use native.Mathlib.Omega.{arith}
 use mathlib.Core.List.{List}
 use lib.Ieee.{Float}
 use Rattle.definitions.specs.Sheet.{place}
 use Rattle.definitions.specs.Dwell.{row_lines, table_lines}
 use Rattle.buffer.specs.Pasted.{Room, Written}
-use Rattle.buffer.proofs.Pasting.{length_written}
 use Rattle.buffer.proofs.Growing.{Turn, turn}
 use Rattle.lines.proofs.Lines.{table-begun, table_grows}
 use Rattle.lines.proofs.put_table.Goals as goal
@@ -22,12 +21,11 @@ loop-i-init c =
     (omega arith, table-begun (place c.args.n c.args.answer.now) c.args.n c.args.at c.args.out.now)
 
 pub put_row-next-requires : goal.put_row-next-requires
-put_row-next-requires c =
-    (
-      c.loop-i-test.true,
-      c.requires.0,
-      (row-turn (place c.args.n c.args.answer.now) c.args.n c.requires.1 c.loop-i-test.true c.loop-i.invariant.1).room,
-    )
+put_row-next-requires c = (
+  c.loop-i-test.true,
+  c.requires.0,
+  (row-turn (place c.args.n c.args.answer.now) c.args.n c.requires.1 c.loop-i-test.true c.loop-i.invariant.1).room,
+)
 
 pub loop-i-preserved : goal.loop-i-preserved
 loop-i-preserved c =

@@ -1,15 +1,8 @@
 -- `lines::put_table` meets its contract. The loop's invariant: the first i rows are written. Assumes nothing.
-use mathlib.Core.Path.{◌≡◌}
-use Prim.Native.Nat.{ℕ, ◌+◌, ◌-◌, ◌≤◌, ◌<◌}
-use native.Mathlib.Omega.{arith}
-use mathlib.Core.List.{List}
-use lib.Ieee.{Float}
+use Prim.Native.Nat.{◌-◌, ◌≤◌}
 use Rattle.definitions.specs.Sheet.{place}
-use Rattle.definitions.specs.Dwell.{row_lines, table_lines}
-use Rattle.buffer.specs.Pasted.{Room, Written}
-use Rattle.buffer.proofs.Pasting.{length_written}
-use Rattle.buffer.proofs.Growing.{Turn, turn}
-use Rattle.lines.proofs.Lines.{table-begun, table_grows}
+use Rattle.definitions.specs.Dwell.{table_lines}
+use Rattle.buffer.specs.Pasted.{Written}
 use Rattle.lines.proofs.put_table.Given as goal
 
 abbrev pub invariant-loop-i : goal.invariant-loop-i

@@ -1,15 +1,7 @@
 -- `live::live_stages` meets its contract: before stage i the marks are right. Assumes nothing.
-use mathlib.Core.Path.{sym, ap, ◌∙◌}
-use mathlib.Core.Bool.{not}
 use Prim.Native.Nat.{◌≤◌, ◌-◌}
-use native.Mathlib.Nat.{le_antisymm}
-use native.Mathlib.Numerals.{add-one}
-use native.Mathlib.Omega.{arith}
-use borrow.Author.Rules.{rules}
 use Rattle.definitions.specs.Sheet.{takes_part}
-use Rattle.steps.proofs.LiveStages.{live_is}
 use Rattle.compact.specs.Listing.{MaskOf}
-use Rattle.compact.proofs.Listings.{mask_begins, mask_turns}
 use Rattle.live.proofs.live_stages.Given as goal
 
 abbrev pub invariant-loop-i : goal.invariant-loop-i

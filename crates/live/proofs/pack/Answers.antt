@@ -1,5 +1,4 @@
 -- `live::pack` meets its contract. Assumes nothing.
-use borrow.Author.Rules.{rules}
 use Rattle.rounding.proofs.Words.{zero_word}
 use Rattle.tables.proofs.Vectors.{zero-table}
 use Rattle.compact.proofs.Listings.{listing_stages, stages_wider}

@@ -1,5 +1,4 @@
 -- `loading::load_row` meets its contract: the signs turned, then the diagonal. Assumes nothing.
-use borrow.Author.Rules.{rules}
 use Rattle.tables.specs.RowMajor.{table}
 use Rattle.loading.proofs.LoadedRows.{row_loaded}
 use Rattle.loading.proofs.load_row.Goals as goal

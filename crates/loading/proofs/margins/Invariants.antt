@@ -1,12 +1,8 @@
 -- `loading::margins` meets its contract: at stage i the stages before it are done. Assumes nothing.
-use mathlib.Core.Path.{refl}
 use Prim.Native.Nat.{◌≤◌, ◌-◌}
-use native.Mathlib.Omega.{arith}
-use borrow.Author.Rules.{rules}
 use Rattle.definitions.specs.Sheet.{diagonal}
 use Rattle.tables.specs.Vectors.{vector}
-use Rattle.tables.proofs.Vectors.{AlongVector, vector_begins, vector_turns, vector_ends}
-use Rattle.loading.proofs.LoadedRows.{as_diagonal}
+use Rattle.tables.proofs.Vectors.{AlongVector}
 use Rattle.loading.proofs.margins.Given as goal
 
 abbrev pub invariant-loop-i : goal.invariant-loop-i

@@ -1,12 +1,8 @@
 -- `loading::negate_row` meets its contract: at column j the columns before it are done. Assumes nothing.
-use mathlib.Core.Path.{refl}
 use Prim.Native.Nat.{◌≤◌, ◌-◌}
-use native.Mathlib.Omega.{arith}
-use borrow.Author.Rules.{rules}
 use Rattle.tables.specs.RowMajor.{table}
-use Rattle.tables.proofs.Loops.{Along, along_begins, along_turns, along_ends}
+use Rattle.tables.proofs.Loops.{Along}
 use Rattle.loading.specs.LoadedTable.{negated}
-use Rattle.loading.proofs.LoadedRows.{as_negated}
 use Rattle.loading.proofs.negate_row.Given as goal
 
 abbrev pub invariant-loop-j : goal.invariant-loop-j

@@ -1,12 +1,8 @@
 -- `loading::rates` meets its contract: at row i the rows before it are done. Assumes nothing.
 use mathlib.Core.Path.{refl}
-use Prim.Native.Nat.{◌≤◌, ◌-◌}
 use native.Mathlib.Omega.{arith}
 use borrow.Author.Rules.{rules}
-use Rattle.definitions.specs.Sheet.{diagonal}
-use Rattle.tables.specs.RowMajor.{table}
-use Rattle.tables.specs.Operators.{replace}
-use Rattle.tables.proofs.Loops.{Down, down_begins, down_puts, down_ends}
+use Rattle.tables.proofs.Loops.{down_begins, down_puts, down_ends}
 use Rattle.loading.specs.LoadedTable.{with_rates}
 use Rattle.loading.proofs.LoadedRows.{as_diagonal}
 use Rattle.loading.proofs.rates.Goals as goal

@@ -1,13 +1,9 @@
 -- `loading::sizes` meets its contract: at row i the rows before it are done. Assumes nothing.
-use mathlib.Core.Path.{refl}
 use Prim.Native.Nat.{◌≤◌, ◌-◌}
-use native.Mathlib.Omega.{arith}
-use borrow.Author.Rules.{rules}
 use Rattle.definitions.specs.Sheet.{size}
 use Rattle.tables.specs.RowMajor.{table}
 use Rattle.tables.specs.Operators.{between}
-use Rattle.tables.proofs.Loops.{Down, down_begins, down_spans, down_ends}
-use Rattle.loading.specs.LoadedTable.{with_sizes}
+use Rattle.tables.proofs.Loops.{Down}
 use Rattle.loading.proofs.sizes.Given as goal
 
 abbrev pub invariant-loop-i : goal.invariant-loop-i

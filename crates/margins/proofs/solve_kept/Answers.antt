@@ -1,7 +1,6 @@
 -- `margins::solve_kept` meets its contract. Assumes nothing.
 use mathlib.Core.Path.{refl}
 use native.Mathlib.Omega.{arith}
-use borrow.Author.Rules.{rules}
 use borrow.Author.Tests.{not-true, not-false}
 use Rattle.rounding.proofs.Words.{zero_word}
 use Rattle.tables.specs.RowMajor.{table}

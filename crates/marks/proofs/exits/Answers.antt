@@ -1,10 +1,7 @@
 -- `marks::exits` meets its contract. Assumes nothing.
-use mathlib.Core.Logic.{⊎_elim}
 use mathlib.Core.Path.{◌≡◌, refl, sym, ap, ◌∙◌}
-use mathlib.Core.Bool.{false}
-use Prim.Native.Nat.{ℕ, ◌≤◌, ◌<◌, ◌-◌, zero-le}
+use Prim.Native.Nat.{ℕ, ◌<◌, zero-le}
 use native.Mathlib.Omega.{arith}
-use borrow.Author.Rules.{rules}
 use mathlib.Core.List.{List}
 use lib.Ieee.{Float, binary64, of_bits, lt}
 use Rattle.definitions.specs.Numbers.{◌⊕◌}
@@ -12,9 +9,8 @@ use Rattle.definitions.specs.Sheet.{place}
 use Rattle.definitions.specs.Questions.{leaves}
 use Rattle.rounding.proofs.Words.{zero_word}
 use Rattle.steps.proofs.Sizes.{diagonal-at}
-use Rattle.marks.specs.Marks.{Marked}
 use Rattle.exact.proofs.Bools.{contrary}
-use Rattle.marks.proofs.Marking.{before, none-marked, first_stage, last-stage, marked_few, at_stage, leave_stage, mark_stage}
+use Rattle.marks.proofs.Marking.{none-marked, first_stage, last-stage, marked_few, at_stage, leave_stage, mark_stage}
 use Rattle.marks.proofs.exits.Goals as goal
 use Rattle.marks.proofs.exits.Goals.{then-number_at, else-number_at}
 
@@ -34,10 +30,10 @@ loop-i-preserved c =
     let l = c.loop-i-test.true in (
       omega arith,
       let exit = exit_is _ _ _ l c.number_at.ensures in
-      elim c.if-number_at.branch [
-        then-number_at w ↦ mark_stage _ _ c.loop-i.invariant.1 l (omega arith) (at_stage _ _ c.loop-i.invariant.1 l) (sym exit ∙ w.if-number_at.true) (ap (λ m. m.marked) w.next-is) (ap (λ m. m.count) w.next-is)
-      | else-number_at w ↦ rw w.next-is (leave_stage _ _ c.loop-i.invariant.1 l (λ t. absurd (contrary _ t (sym exit ∙ w.if-number_at.false))))
-      ],
+          elim c.if-number_at.branch [
+            | then-number_at w ↦ mark_stage _ _ c.loop-i.invariant.1 l (omega arith) (at_stage _ _ c.loop-i.invariant.1 l) (sym exit ∙ w.if-number_at.true) (ap (λ m. m.marked) w.next-is) (ap (λ m. m.count) w.next-is)
+            | else-number_at w ↦ rw w.next-is (leave_stage _ _ c.loop-i.invariant.1 l (λ t. absurd (contrary _ t (sym exit ∙ w.if-number_at.false))))
+          ],
     )
 
 pub returns : goal.returns

@@ -1,5 +1,4 @@
 -- `move_calls::move_sheet` meets its contract. Assumes nothing.
-use borrow.Author.Rules.{rules}
 use mir.Syntax.{w64}
 use mir.ValLaws.{to_z-of_z}
 use Rattle.move_calls.proofs.MoveCalls.{move_call}

@@ -1,10 +1,7 @@
 -- `moving::copy` meets its contract. The loop's invariant: the first weights are written. Assumes nothing.
 use Prim.Native.Nat.{◌-◌}
-use mathlib.Core.Path.{refl}
-use native.Mathlib.Omega.{arith}
 use lib.ListN.{length}
-use lib.Ieee.{nan}
-use Rattle.steps.proofs.Filling.{Filling, none_yet, one_more, all_written}
+use Rattle.steps.proofs.Filling.{Filling}
 use Rattle.moving.proofs.copy.Given as goal
 
 abbrev pub invariant-loop-i : goal.invariant-loop-i

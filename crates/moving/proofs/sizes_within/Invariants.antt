@@ -1,12 +1,10 @@
 -- `moving::sizes_within` meets its contract. The loop's invariant: the flag tells of the numbers so far. Assumes nothing.
-use mathlib.Core.Path.{◌≡◌, refl, ap, ◌∙◌}
-use Prim.Native.Nat.{ℕ, ◌-◌, ◌≤◌}
-use native.Mathlib.Omega.{arith}
+use mathlib.Core.Path.{◌≡◌}
+use Prim.Native.Nat.{◌-◌, ◌≤◌}
 use lib.ListN.{length, get_or}
 use lib.Ieee.{nan}
 use Rattle.definitions.specs.Numbers.{all}
 use Rattle.rounding.specs.ResultRange.{size_within}
-use Rattle.steps.proofs.All.{all_more}
 use Rattle.moving.proofs.sizes_within.Given as goal
 
 abbrev pub invariant-loop-at : goal.invariant-loop-at

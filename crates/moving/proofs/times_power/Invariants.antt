@@ -1,12 +1,9 @@
 -- `moving::times_power` meets its contract. The loop's invariant: the first products are written. Assumes nothing.
 use Prim.Native.Nat.{◌-◌}
 use mathlib.Core.List.{map}
-use native.Mathlib.Omega.{arith}
-use lib.ListN.{length, length-map}
-use lib.Ieee.{nan}
+use lib.ListN.{length}
 use Rattle.definitions.specs.Numbers.{◌⊗◌}
-use Rattle.steps.proofs.Filling.{Filling, none_yet, one_more, all_written}
-use Rattle.moving.proofs.Room.{product_at}
+use Rattle.steps.proofs.Filling.{Filling}
 use Rattle.moving.proofs.times_power.Given as goal
 
 abbrev pub invariant-loop-i : goal.invariant-loop-i

@@ -1,5 +1,4 @@
 -- `out_places::hand_length` meets its contract: the answer, case by case. Assumes nothing.
-use borrow.Author.Rules.{rules}
 use mathlib.Core.Path.{ap}
 use Rattle.answers.specs.Answers.{saved_given}
 use Rattle.out_places.proofs.Telling.{value_given, value-kept}

@@ -1,10 +1,8 @@
 -- `payload::fill_numbers` meets its contract. The loop's invariant: the first k places are written. Assumes nothing.
-use Prim.Native.Nat.{◌-◌}
 use mathlib.Core.Path.{ap, ◌∙◌}
 use native.Mathlib.Omega.{arith}
 use lib.Ieee.{binary64, of_bits}
-use Rattle.definitions.specs.File.{file_numbers}
-use Rattle.steps.proofs.Filling.{Filling, none_yet, one_more, all_written}
+use Rattle.steps.proofs.Filling.{none_yet, one_more, all_written}
 use Rattle.payload.proofs.FileWords.{few_stages, head_held, words_due, as_many_words, file-number}
 use Rattle.payload.proofs.fill_numbers.Goals as goal
 

@@ -1,8 +1,6 @@
 -- `payload::fill_words` meets its contract. The loop's invariant: the first k places are written. Assumes nothing.
-use Prim.Native.Nat.{◌-◌}
 use native.Mathlib.Omega.{arith}
-use Rattle.definitions.specs.File.{file_words}
-use Rattle.steps.proofs.Filling.{Filling, none_yet, one_more, all_written}
+use Rattle.steps.proofs.Filling.{none_yet, one_more, all_written}
 use Rattle.payload.proofs.FileWords.{few_stages, head_held, words_due}
 use Rattle.payload.proofs.fill_words.Goals as goal
 

@@ -1,7 +1,6 @@
 -- `pivots::begin` meets its contract. Assumes nothing.
 use mathlib.Core.Path.{◌∙◌}
 use native.Mathlib.Omega.{arith}
-use borrow.Author.Rules.{rules}
 use Rattle.rounding.proofs.ResultRange.{quotient_test}
 use Rattle.tables.specs.RowMajor.{table}
 use Rattle.pivots.proofs.Pivots.{plain_begun, weighed-begun}

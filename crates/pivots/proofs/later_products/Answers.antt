@@ -1,17 +1,15 @@
 -- `pivots::later_products` meets its contract: at turn q the last q products are added and tested. Assumes nothing.
-use Prim.Native.Nat.{suc, ◌+◌, ◌-◌, ◌≤◌}
+use Prim.Native.Nat.{suc, ◌+◌, ◌-◌}
 use mathlib.Core.Path.{◌≡◌, refl, ap, ap₂, ◌∙◌}
 use native.Mathlib.Nat.{sub-zero}
 use native.Mathlib.Omega.{arith}
 use lib.ListN.{get_or}
 use lib.Ieee.{of_bits, nan}
-use borrow.Author.Rules.{rules}
-use Rattle.definitions.specs.Numbers.{◌⊗◌, 0·0, mul_in_range}
-use Rattle.definitions.specs.LeavingRates.{falling}
+use Rattle.definitions.specs.Numbers.{◌⊗◌, mul_in_range}
 use Rattle.rounding.proofs.ResultRange.{product_test}
 use Rattle.tables.specs.RowMajor.{table}
 use Rattle.steps.proofs.All.{all-falling}
-use Rattle.steps.proofs.Gathering.{Gathered, gathered_begins, gathered_turns, gathered_all, Summed, summed_begins, summed_turns, summed_ends}
+use Rattle.steps.proofs.Gathering.{gathered_begins, gathered_turns, gathered_all, summed_begins, summed_turns, summed_ends}
 use Rattle.passes.proofs.Weights.{some_weights}
 use Rattle.pivots.proofs.later_products.Goals as goal
 

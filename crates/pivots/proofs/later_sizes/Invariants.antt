@@ -1,14 +1,10 @@
 -- `pivots::later_sizes` meets its contract: at turn q the last q sizes are added. Assumes nothing.
-use Prim.Native.Nat.{suc, ◌+◌, ◌-◌, ◌≤◌}
-use mathlib.Core.Path.{◌≡◌, refl, ap, ◌∙◌}
-use native.Mathlib.Nat.{sub-zero}
-use native.Mathlib.Omega.{arith}
-use lib.Ieee.{of_bits}
-use borrow.Author.Rules.{rules}
+use Prim.Native.Nat.{suc, ◌-◌, ◌≤◌}
+use mathlib.Core.Path.{◌≡◌}
 use Rattle.definitions.specs.Numbers.{0·0}
 use Rattle.definitions.specs.LeavingRates.{falling}
 use Rattle.tables.specs.RowMajor.{table}
-use Rattle.steps.proofs.Gathering.{Summed, summed_begins, summed_turns, summed_ends}
+use Rattle.steps.proofs.Gathering.{Summed}
 use Rattle.pivots.proofs.later_sizes.Given as goal
 
 abbrev pub invariant-loop-q : goal.invariant-loop-q

@@ -1,14 +1,10 @@
 -- `places::ask_places` meets its contract. Assumes nothing.
-use mathlib.Core.Path.{◌≡◌, refl, ◌∙◌}
-use Prim.Native.Nat.{◌≤◌, ◌-◌, zero-le}
-use native.Mathlib.Omega.{arith}
-use borrow.Author.Rules.{rules}
-use borrow.Author.Tests.{not-true, not-false}
+use mathlib.Core.Path.{◌≡◌}
+use Prim.Native.Nat.{◌≤◌, ◌-◌}
 use Rattle.answers.specs.declared.Asked.{Asked}
-use Rattle.answers.proofs.Outcome.{all_pass, no}
-use Rattle.steps.proofs.Searches.{from_row, from_place, enter_row, good-place, bad_place, leave_row, no_row}
+use Rattle.steps.proofs.Searches.{from_row, from_place}
 use Rattle.places.specs.PlaceQuestions.{ask_places}
-use Rattle.places.proofs.PlaceQuestions.{place_passes, place_tested, search_rows}
+use Rattle.places.proofs.PlaceQuestions.{place_passes}
 use Rattle.places.proofs.ask_places.Given as goal
 
 -- No bad place so far.

@@ -1,6 +1,5 @@
 -- `places::number_in_row` meets its contract. Assumes nothing.
 use native.Mathlib.Omega.{arith}
-use borrow.Author.Rules.{rules}
 use Rattle.shape.proofs.Square.{row_inside, numbers_few}
 use Rattle.places.proofs.number_in_row.Goals as goal
 

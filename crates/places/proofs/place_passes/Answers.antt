@@ -1,6 +1,5 @@
 -- `places::place_passes` meets its contract. Assumes nothing.
 use borrow.Author.Tests.{eq-eqb, ne_eqb}
-use borrow.Author.Rules.{rules}
 use Rattle.definitions.specs.Numbers.{is_zero}
 use Rattle.definitions.specs.Questions.{large_enough}
 use Rattle.rounding.proofs.Words.{zero_word, smallest-word}

@@ -1,5 +1,4 @@
 -- `powers::power_of_two` meets its contract: the doubling rule of the table is computed here, over the whole of it. Assumes nothing.
-use mathlib.Core.Path.{refl}
 use mir.Syntax.{w64}
 use mir.ValLaws.{to_z-of_z}
 use lib.Ieee.{of_bits}

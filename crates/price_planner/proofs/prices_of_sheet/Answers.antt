@@ -1,7 +1,6 @@
 -- `price_planner::prices_of_sheet` meets its contract. Assumes nothing.
 use mathlib.Core.Path.{◌≡◌, refl}
 use native.Mathlib.Omega.{arith}
-use borrow.Author.Rules.{rules}
 use lib.ListN.{length}
 use Prim.Native.Nat.{◌≤◌}
 use Rattle.shape.specs.Square.{WholeSheet}

@@ -1,5 +1,4 @@
 -- `price_planner::request_prices` meets its contract. Assumes nothing.
-use borrow.Author.Rules.{rules}
 use mir.Syntax.{w64}
 use mir.ValLaws.{to_z-of_z}
 use Rattle.answers.proofs.Outcome.{passed, refused}

@@ -1,5 +1,4 @@
 -- `price_planner::steps` meets its contract. Assumes nothing.
-use borrow.Author.Rules.{rules}
 use borrow.Author.Tests.{not-true, not-false}
 use Rattle.rounding.proofs.Words.{zero_word}
 use Rattle.tables.proofs.Vectors.{new_table}

@@ -1,16 +1,14 @@
 -- `prices::ask_prices` meets its contract: every price before j is good. Assumes nothing.
-use mathlib.Core.Path.{◌≡◌, ◌∙◌}
+use mathlib.Core.Path.{◌∙◌}
 use mathlib.Core.Bool.{Bool}
 use mathlib.Core.List.{List}
-use Prim.Native.Nat.{ℕ, ◌≤◌, ◌-◌, zero-le}
+use Prim.Native.Nat.{ℕ, zero-le}
 use native.Mathlib.Omega.{arith}
-use borrow.Author.Rules.{rules}
-use lib.ListN.{length}
 use lib.Ieee.{Float}
 use Rattle.exact.proofs.Bools.{denied, granted}
 use Rattle.definitions.specs.Prices.{unit_price, good_price, question19}
 use Rattle.answers.proofs.Outcome.{all_pass, no}
-use Rattle.steps.proofs.Searches.{from_stage, all-stages, good-stage, bad_stage, no_stage}
+use Rattle.steps.proofs.Searches.{all-stages, good-stage, bad_stage, no_stage}
 use mathlib.Core.Path.{ap}
 use mathlib.Core.Bool.{not}
 use Rattle.prices.proofs.ask_prices.Goals as goal

@@ -1,6 +1,6 @@
 -- `prices::fill` meets its contract: at stage i the stages before it are done. Assumes nothing.
 use mathlib.Core.Path.{refl, ap, ◌∙◌}
-use Prim.Native.Nat.{ℕ, ◌≤◌, ◌-◌}
+use Prim.Native.Nat.{ℕ}
 use native.Mathlib.Omega.{arith}
 use borrow.Author.Rules.{rules}
 use lib.Ieee.{Float}
@@ -8,7 +8,7 @@ use Rattle.definitions.specs.Prices.{unit_price, request_price}
 use Rattle.tables.specs.RowMajor.{table}
 use Rattle.tables.specs.Vectors.{vector}
 use Rattle.tables.proofs.Operators.{between_in}
-use Rattle.tables.proofs.Vectors.{AlongVector, vector_begins, vector_turns, vector_ends}
+use Rattle.tables.proofs.Vectors.{vector_begins, vector_turns, vector_ends}
 use Rattle.prices.proofs.fill.Goals as goal
 
 pub loop-i-preserved : goal.loop-i-preserved

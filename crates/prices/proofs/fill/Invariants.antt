@@ -1,14 +1,9 @@
 -- `prices::fill` meets its contract: at stage i the stages before it are done. Assumes nothing.
-use mathlib.Core.Path.{refl, ap, ◌∙◌}
-use Prim.Native.Nat.{ℕ, ◌≤◌, ◌-◌}
-use native.Mathlib.Omega.{arith}
-use borrow.Author.Rules.{rules}
-use lib.Ieee.{Float}
+use Prim.Native.Nat.{◌≤◌, ◌-◌}
 use Rattle.definitions.specs.Prices.{unit_price, request_price}
 use Rattle.tables.specs.RowMajor.{table}
 use Rattle.tables.specs.Vectors.{vector}
-use Rattle.tables.proofs.Operators.{between_in}
-use Rattle.tables.proofs.Vectors.{AlongVector, vector_begins, vector_turns, vector_ends}
+use Rattle.tables.proofs.Vectors.{AlongVector}
 use Rattle.prices.proofs.fill.Given as goal
 
 abbrev pub invariant-loop-i : goal.invariant-loop-i

@@ -1,5 +1,4 @@
 -- `prices::good_price` meets its contract: the literals are zero and 2^-1022. Assumes nothing.
-use borrow.Author.Rules.{rules}
 use Rattle.definitions.specs.Numbers.{is_zero}
 use Rattle.definitions.specs.Questions.{large_enough}
 use Rattle.definitions.specs.Prices.{good_price}

@@ -1,12 +1,8 @@
 -- `prices::in_range` meets its contract: at stage i the stages before it are tested. Assumes nothing.
-use mathlib.Core.Path.{refl, ◌∙◌}
 use Prim.Native.Nat.{◌≤◌, ◌-◌}
-use native.Mathlib.Omega.{arith}
-use borrow.Author.Rules.{rules}
 use Rattle.definitions.specs.Prices.{unit_price, price_in_range}
-use Rattle.steps.proofs.Gathering.{Gathered, gathered_begins, gathered_turns, gathered_all}
+use Rattle.steps.proofs.Gathering.{Gathered}
 use Rattle.tables.specs.RowMajor.{table}
-use Rattle.prices.proofs.PriceTests.{price_test}
 use Rattle.prices.proofs.in_range.Given as goal
 
 abbrev pub invariant-loop-i : goal.invariant-loop-i

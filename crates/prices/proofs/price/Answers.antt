@@ -1,14 +1,11 @@
 -- `prices::price` meets its contract: at column j the products before it are added. Assumes nothing.
 use mathlib.Core.Path.{refl}
-use Prim.Native.Nat.{◌≤◌, ◌-◌}
 use native.Mathlib.Nat.{sub-zero}
 use native.Mathlib.Omega.{arith}
 use borrow.Author.Rules.{rules}
-use Rattle.definitions.specs.Numbers.{◌⊗◌, 0·0}
 use Rattle.definitions.specs.Prices.{unit_price, request_price}
 use Rattle.rounding.proofs.Words.{zero_word}
-use Rattle.steps.proofs.Gathering.{Summed, summed_begins, summed_turns, summed_ends}
-use Rattle.tables.specs.RowMajor.{table}
+use Rattle.steps.proofs.Gathering.{summed_begins, summed_turns, summed_ends}
 use Rattle.prices.proofs.price.Goals as goal
 
 pub loop-j-preserved : goal.loop-j-preserved

@@ -1,12 +1,8 @@
 -- `prices::products_in_range` meets its contract: at column j the products before it are tested. Assumes nothing.
-use mathlib.Core.Path.{refl, ◌∙◌}
 use Prim.Native.Nat.{◌≤◌, ◌-◌}
-use native.Mathlib.Omega.{arith}
-use borrow.Author.Rules.{rules}
 use Rattle.definitions.specs.Numbers.{mul_in_range}
 use Rattle.definitions.specs.Prices.{unit_price}
-use Rattle.rounding.proofs.ResultRange.{product_test}
-use Rattle.steps.proofs.Gathering.{Gathered, gathered_begins, gathered_turns, gathered_all}
+use Rattle.steps.proofs.Gathering.{Gathered}
 use Rattle.tables.specs.RowMajor.{table}
 use Rattle.prices.proofs.products_in_range.Given as goal
 

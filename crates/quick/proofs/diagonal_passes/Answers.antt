@@ -1,9 +1,7 @@
 -- `quick::diagonal_passes` meets its contract. Assumes nothing.
 use mathlib.Core.Path.{subst}
-use Prim.Native.Nat.{ℕ, ◌≤◌, ◌<◌, ◌-◌, zero-le}
+use Prim.Native.Nat.{zero-le}
 use native.Mathlib.Omega.{arith}
-use lib.Dec.{T}
-use borrow.Author.Rules.{rules}
 use Rattle.definitions.specs.Sheet.{place}
 use Rattle.quick.specs.QuickPass.{PassesOn}
 use Rattle.quick.proofs.QuickNumbers.{parameter_passes}

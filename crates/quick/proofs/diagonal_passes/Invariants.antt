@@ -1,13 +1,8 @@
 -- `quick::diagonal_passes` meets its contract. Assumes nothing.
-use mathlib.Core.Path.{subst}
-use Prim.Native.Nat.{ℕ, ◌≤◌, ◌<◌, ◌-◌, zero-le}
-use native.Mathlib.Omega.{arith}
+use Prim.Native.Nat.{ℕ, ◌≤◌, ◌<◌, ◌-◌}
 use lib.Dec.{T}
-use borrow.Author.Rules.{rules}
 use Rattle.definitions.specs.Sheet.{place}
 use Rattle.quick.specs.QuickPass.{PassesOn}
-use Rattle.quick.proofs.QuickNumbers.{parameter_passes}
-use Rattle.quick.proofs.QuickSheets.{flag_more}
 use Rattle.quick.proofs.diagonal_passes.Given as goal
 
 abbrev pub invariant-loop-i : goal.invariant-loop-i

@@ -1,10 +1,9 @@
 -- `quick::part_within` meets its contract. Assumes nothing.
-use Prim.Native.Nat.{ℕ, ◌≤◌, ◌<◌, ◌-◌, zero-le}
+use Prim.Native.Nat.{zero-le}
 use native.Mathlib.Omega.{arith}
 use lib.Dec.{T}
-use lib.ListN.{length, get_or}
+use lib.ListN.{get_or}
 use lib.Ieee.{nan}
-use borrow.Author.Rules.{rules}
 use Rattle.quick.specs.QuickPass.{within}
 use Rattle.quick.proofs.QuickSheets.{flag_more}
 use Rattle.quick.proofs.part_within.Goals as goal

@@ -1,5 +1,4 @@
 -- `quick::sheet_passes` meets its contract. Assumes nothing.
-use borrow.Author.Rules.{rules}
 use borrow.Author.Tests.{not-false}
 use Rattle.exact.proofs.Bools.{holds}
 use Rattle.shape.proofs.Square.{is_square}
@@ -9,7 +8,7 @@ use mathlib.Core.Bool.{not}
 use Rattle.quick.proofs.sheet_passes.Goals as goal
 
 pub returns : goal.returns
-returns  c t =
+returns c t =
     sheet_passes c.args.reading c.args.n c.args.sheet.now
     (c.diagonal_passes.ensures (holds (not-false c.diagonal_passes.result (ap not c.if-not-diagonal_passes.false))))
     (c.sizes_pass.ensures (holds (not-false c.sizes_pass.result (ap not c.if-not-sizes_pass.false))))

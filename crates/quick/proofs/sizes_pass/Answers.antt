@@ -1,12 +1,11 @@
 -- `quick::sizes_pass` meets its contract. Assumes nothing.
-use Prim.Native.Nat.{ℕ, ◌*◌, ◌+◌, ◌≤◌, ◌<◌, ◌-◌}
+use Prim.Native.Nat.{◌*◌, ◌+◌, ◌≤◌, ◌<◌}
 use native.Mathlib.Omega.{arith}
 use lib.ListN.{length}
-use borrow.Author.Rules.{rules}
 use borrow.Author.Count.{below_none, below_more}
 use borrow.Author.Tests.{not-false}
 use Rattle.exact.proofs.Bools.{holds}
-use Rattle.quick.proofs.QuickSheets.{PassesBefore, none_before, stretch_inside, stretch_passes, sizes_pass}
+use Rattle.quick.proofs.QuickSheets.{none_before, stretch_inside, stretch_passes, sizes_pass}
 use mathlib.Core.Path.{ap}
 use mathlib.Core.Bool.{not}
 use Rattle.quick.proofs.sizes_pass.Goals as goal

@@ -1,12 +1,6 @@
 -- `quick::sizes_pass` meets its contract. Assumes nothing.
-use Prim.Native.Nat.{ℕ, ◌*◌, ◌+◌, ◌≤◌, ◌<◌, ◌-◌}
-use native.Mathlib.Omega.{arith}
-use lib.ListN.{length}
-use borrow.Author.Rules.{rules}
-use borrow.Author.Count.{below_none, below_more}
-use borrow.Author.Tests.{not-false}
-use Rattle.exact.proofs.Bools.{holds}
-use Rattle.quick.proofs.QuickSheets.{PassesBefore, none_before, stretch_inside, stretch_passes, sizes_pass}
+use Prim.Native.Nat.{ℕ, ◌≤◌, ◌<◌, ◌-◌}
+use Rattle.quick.proofs.QuickSheets.{PassesBefore}
 use Rattle.quick.proofs.sizes_pass.Given as goal
 
 abbrev pub invariant-loop-i : goal.invariant-loop-i

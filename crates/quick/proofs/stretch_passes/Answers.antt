@@ -1,5 +1,4 @@
 -- `quick::stretch_passes` meets its contract. Assumes nothing.
-use borrow.Author.Rules.{rules}
 use Rattle.quick.proofs.QuickNumbers.{size-passes}
 use Rattle.quick.proofs.stretch_passes.Goals as goal
 

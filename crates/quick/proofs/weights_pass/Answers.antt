@@ -1,5 +1,4 @@
 -- `quick::weights_pass` meets its contract. Assumes nothing.
-use borrow.Author.Rules.{rules}
 use Rattle.quick.proofs.QuickNumbers.{weight-passes}
 use Rattle.quick.proofs.weights_pass.Goals as goal
 

@@ -1,7 +1,6 @@
 -- `ranges::quick` meets its contract: a parameter is a number of the format. Assumes nothing.
 use mathlib.Core.Path.{ap₂}
 use mathlib.Core.Bool.{◌||◌}
-use borrow.Author.Rules.{rules}
 use Rattle.rounding.proofs.ResultRange.{is_zero_is}
 use Rattle.ranges.proofs.quick.Goals as goal
 

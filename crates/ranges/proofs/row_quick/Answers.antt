@@ -1,14 +1,10 @@
 -- `ranges::row_quick` meets its contract: at column k the multipliers before it are tested. Assumes nothing.
 use mathlib.Core.Path.{refl}
-use Prim.Native.Nat.{ℕ, ◌≤◌, ◌<◌, ◌-◌}
 use native.Mathlib.Omega.{arith}
-use lib.Dec.{T}
-use lib.Ieee.{binary64, fits}
 use borrow.Author.Count.{below_more}
 use borrow.Author.Rules.{rules}
 use Rattle.tables.specs.RowMajor.{table}
-use Rattle.ranges.specs.Quick.{quick_at}
-use Rattle.steps.proofs.Gathering.{Gathered, gathered_begins, gathered_turns, gathered_ends}
+use Rattle.steps.proofs.Gathering.{gathered_begins, gathered_turns, gathered_ends}
 use Rattle.ranges.proofs.Multiples.{quick_at_lem}
 use Rattle.ranges.proofs.row_quick.Goals as goal
 

@@ -1,11 +1,8 @@
 -- `ratios::fill` meets its contract: at stage i the stages before it are done. Assumes nothing.
 use Prim.Native.Nat.{◌≤◌, ◌-◌}
-use native.Mathlib.Omega.{arith}
-use borrow.Author.Rules.{rules}
 use Rattle.tables.specs.RowMajor.{table}
 use Rattle.tables.specs.Vectors.{vector}
 use Rattle.ratios.specs.Ratios.{RatiosTested}
-use Rattle.ratios.proofs.RatioLaws.{ratios_none, ratios_turn, ratios_all}
 use Rattle.ratios.proofs.fill.Given as goal
 
 abbrev pub invariant-loop-i : goal.invariant-loop-i

@@ -1,7 +1,6 @@
 -- `ratios::stage` meets its contract. Assumes nothing.
 use mathlib.Core.Path.{◌∙◌}
 use native.Mathlib.Omega.{arith}
-use borrow.Author.Rules.{rules}
 use Rattle.rounding.proofs.ResultRange.{quotient_test}
 use Rattle.definitions.specs.Numbers.{◌⊕◌}
 use Rattle.ratios.proofs.RatioLaws.{stage_done_lem}

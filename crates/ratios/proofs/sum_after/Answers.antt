@@ -1,11 +1,9 @@
 -- `ratios::sum_after` meets its contract: at column j the sizes before it are added. Assumes nothing.
 use mathlib.Core.Path.{refl}
-use Prim.Native.Nat.{◌≤◌, ◌-◌, suc}
 use native.Mathlib.Numerals.{add-one}
 use native.Mathlib.Omega.{arith}
 use borrow.Author.Rules.{rules}
-use Rattle.tables.specs.RowMajor.{table}
-use Rattle.steps.proofs.Gathering.{Summed, summed_begins, summed_turns, summed_ends}
+use Rattle.steps.proofs.Gathering.{summed_begins, summed_turns, summed_ends}
 use Rattle.ratios.proofs.sum_after.Goals as goal
 
 pub loop-j-preserved : goal.loop-j-preserved

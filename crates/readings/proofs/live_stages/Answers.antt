@@ -1,6 +1,5 @@
 -- `readings::live_stages` meets its contract. Assumes nothing.
 use native.Mathlib.Omega.{arith}
-use borrow.Author.Rules.{rules}
 use borrow.Author.Tests.{not-true, not-false}
 use Rattle.rounding.proofs.Words.{zero_word}
 use Rattle.tables.specs.RowMajor.{table}

@@ -1,5 +1,4 @@
 -- `readings::steps` meets its contract. Assumes nothing.
-use mathlib.Core.Logic.{⊎_elim}
 use mathlib.Core.Path.{sym, ◌∙◌}
 use borrow.Author.Tests.{not-false}
 use Rattle.shape.proofs.Square.{is_square}
@@ -29,8 +28,8 @@ pub returns : goal.returns
 returns c =
     every_stepped c.requires.0 c.if-reading-eq2.false
     (elim c.else-reading-eq1.branch [
-      else-reading-eq1-via-then-reading-eq1+else-some_idle w ↦ rw w.if-reading-eq1.true (not-false _ (sym w.some_idle.ensures ∙ w.if-some_idle.false))
-    | else-reading-eq1-via-else-reading-eq1 w ↦ every_part _ _ _ w.if-reading-eq1.false
+      | else-reading-eq1-via-then-reading-eq1+else-some_idle w ↦ rw w.if-reading-eq1.true (not-false _ (sym w.some_idle.ensures ∙ w.if-some_idle.false))
+      | else-reading-eq1-via-else-reading-eq1 w ↦ every_part _ _ _ w.if-reading-eq1.false
     ])
     (rw c.weights_of.ensures at c.every_stage.ensures)
 

@@ -1,5 +1,4 @@
 -- `records::is_whole` meets its contract. Assumes nothing.
-use borrow.Author.Rules.{rules}
 use native.Mathlib.Omega.{arith}
 use Rattle.records.proofs.Records.{cut_short, whole_by_length}
 use Rattle.records.proofs.is_whole.Goals as goal

@@ -1,11 +1,8 @@
 -- `records::number_at` meets its contract. The loop's invariant: the number in the last k bytes. Assumes nothing.
-use Prim.Native.Nat.{ℕ, ◌+◌, ◌-◌, ◌*◌, ◌^◌, ◌≤◌, ◌<◌}
-use mathlib.Core.Path.{◌≡◌}
+use Prim.Native.Nat.{ℕ, ◌+◌, ◌*◌, ◌^◌, ◌<◌}
 use native.Mathlib.Omega.{arith}
-use native.Mathlib.Nat.{lt_trans}
-use lib.Dec.{lit<}
 use lib.ListN.{get_or}
-use Rattle.records.proofs.Little.{last_bytes, no_bytes, one_byte_more, all-bytes, byte_fits, byte_added}
+use Rattle.records.proofs.Little.{no_bytes, one_byte_more, all-bytes, byte_fits, byte_added}
 use Rattle.records.proofs.number_at.Goals as goal
 use Rattle.records.proofs.number_at.Goals.{After-shared_slice_known-1}
 
@@ -33,7 +30,6 @@ pub returns : goal.returns
 returns c =
     let l = c.loop-k in
     all-bytes c.args.bytes.now c.args.at c.args.width l.k l.number l.invariant.0 c.loop-k-test.false l.invariant.1
-
 
 pub overflow_mul-number : goal.overflow_mul-number
 overflow_mul-number c = omega (arith, fits c)

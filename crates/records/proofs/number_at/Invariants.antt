@@ -1,11 +1,7 @@
 -- `records::number_at` meets its contract. The loop's invariant: the number in the last k bytes. Assumes nothing.
-use Prim.Native.Nat.{ℕ, ◌+◌, ◌-◌, ◌*◌, ◌^◌, ◌≤◌, ◌<◌}
+use Prim.Native.Nat.{◌-◌, ◌≤◌}
 use mathlib.Core.Path.{◌≡◌}
-use native.Mathlib.Omega.{arith}
-use native.Mathlib.Nat.{lt_trans}
-use lib.Dec.{lit<}
-use lib.ListN.{get_or}
-use Rattle.records.proofs.Little.{last_bytes, no_bytes, one_byte_more, all-bytes, byte_fits, byte_added}
+use Rattle.records.proofs.Little.{last_bytes}
 use Rattle.records.proofs.number_at.Given as goal
 
 abbrev pub invariant-loop-k : goal.invariant-loop-k

@@ -1,5 +1,4 @@
 -- `records::put_header` meets its contract: two writers in a row. Assumes nothing.
-use borrow.Author.Rules.{rules}
 use Rattle.definitions.specs.Saving.{little_bytes}
 use Rattle.buffer.proofs.Pasting.{room_first, room_next, written_next}
 use Rattle.records.proofs.put_header.Goals as goal

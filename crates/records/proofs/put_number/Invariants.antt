@@ -1,13 +1,9 @@
 -- `records::put_number` meets its contract. The loop's invariant: so many bytes are written, and the rest is the number without them. Assumes nothing.
-use Prim.Native.Nat.{ℕ, ◌+◌, ◌-◌, ◌/◌, ◌%◌, ◌≤◌, ◌<◌}
-use mathlib.Core.List.{List, [], ◌∷◌}
-use mathlib.Core.Path.{◌≡◌, ap, ◌∙◌}
-use native.Mathlib.Omega.{arith}
+use Prim.Native.Nat.{◌-◌, ◌≤◌}
+use mathlib.Core.Path.{◌≡◌}
 use Rattle.definitions.specs.Saving.{little_bytes}
-use Rattle.buffer.specs.Pasted.{Room, Written}
-use Rattle.buffer.proofs.Pasting.{length_written}
-use Rattle.buffer.proofs.Growing.{Turn, turn}
-use Rattle.records.proofs.LittleBytes.{after, after_none, after-one_more, little-begun, little_grows}
+use Rattle.buffer.specs.Pasted.{Written}
+use Rattle.records.proofs.LittleBytes.{after}
 use Rattle.records.proofs.put_number.Given as goal
 
 abbrev pub invariant-loop-done : goal.invariant-loop-done

@@ -1,5 +1,4 @@
 -- `refusal::refused_text` meets its contract: four writers in a row write the pieces of the line, for which the buffer has room. Assumes nothing.
-use borrow.Author.Rules.{rules}
 use mathlib.Core.List.{List, ◌++◌}
 use Prim.Native.Nat.{ℕ}
 use native.Mathlib.Omega.{arith}

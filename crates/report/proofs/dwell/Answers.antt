@@ -1,5 +1,4 @@
 -- `report::dwell` meets its contract: the text for the bytes that are judged. Assumes nothing.
-use borrow.Author.Rules.{rules}
 use native.Mathlib.Omega.{arith}
 use Prim.Native.Nat.{suc}
 use lib.ListN.{length, length-take}

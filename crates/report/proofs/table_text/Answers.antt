@@ -1,5 +1,4 @@
 -- `report::table_text` meets its contract: the text for what the service answers and leaves in the area. Assumes nothing.
-use borrow.Author.Rules.{rules}
 use mathlib.Core.Path.{refl}
 use native.Mathlib.Omega.{arith}
 use mir.Syntax.{w64}

@@ -1,5 +1,4 @@
 -- `rounding::from_word` meets its contract. Assumes nothing.
-use borrow.Author.Rules.{rules}
 use Rattle.rounding.proofs.Words.{nan-word, number_word}
 use Rattle.rounding.proofs.from_word.Goals as goal
 

@@ -1,5 +1,4 @@
 -- `rounding::result_in_range` meets its contract: the three tests of the definition, with the program's literals. Assumes nothing.
-use borrow.Author.Rules.{rules}
 use Rattle.rounding.proofs.ResultRange.{by_tests}
 use Rattle.rounding.proofs.result_in_range.Goals as goal
 

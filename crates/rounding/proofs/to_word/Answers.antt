@@ -1,5 +1,4 @@
 -- `rounding::to_word` meets its contract. Assumes nothing.
-use borrow.Author.Rules.{rules}
 use Rattle.rounding.proofs.Words.{nan-bits, not-nan}
 use Rattle.rounding.proofs.to_word.Goals as goal
 

@@ -1,11 +1,9 @@
 -- `rows::add_multiple` meets its contract: at column j the columns before it are done. Assumes nothing.
 use mathlib.Core.Path.{refl, ◌∙◌}
-use Prim.Native.Nat.{◌≤◌, ◌-◌}
 use native.Mathlib.Omega.{arith}
 use borrow.Author.Rules.{rules}
 use Rattle.tables.specs.RowMajor.{table}
-use Rattle.tables.specs.Rows.{plus_multiple}
-use Rattle.tables.proofs.Loops.{Along, along_begins, along_due, along_else, along_turns, along_ends}
+use Rattle.tables.proofs.Loops.{along_begins, along_due, along_else, along_turns, along_ends}
 use Rattle.tables.proofs.Rows.{plus_multiple_lem}
 use Rattle.rows.proofs.add_multiple.Goals as goal
 

@@ -1,14 +1,9 @@
 -- `rows::divide` meets its contract: at column j the columns before it are done and tested. Assumes nothing.
-use mathlib.Core.Path.{refl, ◌∙◌}
 use Prim.Native.Nat.{◌≤◌, ◌-◌}
-use native.Mathlib.Omega.{arith}
-use borrow.Author.Rules.{rules}
-use Rattle.rounding.proofs.ResultRange.{quotient_test}
 use Rattle.tables.specs.RowMajor.{table}
 use Rattle.tables.specs.Rows.{over, over_in_range}
-use Rattle.steps.proofs.Gathering.{Gathered, gathered_begins, gathered_turns, gathered_all}
-use Rattle.tables.proofs.Loops.{Along, along_begins, along_due, along_turns, along_ends}
-use Rattle.tables.proofs.Rows.{over_is, over_test}
+use Rattle.steps.proofs.Gathering.{Gathered}
+use Rattle.tables.proofs.Loops.{Along}
 use Rattle.rows.proofs.divide.Given as goal
 
 abbrev pub invariant-loop-j : goal.invariant-loop-j

@@ -1,14 +1,11 @@
 -- `rows::dot` meets its contract: at column j the products before it are added and tested. Assumes nothing.
 use mathlib.Core.Path.{refl, ◌∙◌, ap₂}
-use Prim.Native.Nat.{◌≤◌, ◌-◌}
 use native.Mathlib.Omega.{arith}
 use borrow.Author.Rules.{rules}
-use Rattle.definitions.specs.Numbers.{◌⊗◌, 0·0, mul_in_range}
+use Rattle.definitions.specs.Numbers.{◌⊗◌}
 use Rattle.rounding.proofs.Words.{zero_word}
 use Rattle.rounding.proofs.ResultRange.{product_test}
-use Rattle.steps.proofs.Gathering.{Gathered, gathered_begins, gathered_turns, gathered_ends, Summed, summed_begins, summed_turns, summed_ends}
-use Rattle.tables.specs.RowMajor.{table}
-use Rattle.tables.specs.Vectors.{vector}
+use Rattle.steps.proofs.Gathering.{gathered_begins, gathered_turns, gathered_ends, summed_begins, summed_turns, summed_ends}
 use Rattle.rows.proofs.dot.Goals as goal
 
 pub loop-j-preserved : goal.loop-j-preserved

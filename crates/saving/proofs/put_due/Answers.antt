@@ -1,5 +1,4 @@
 -- `saving::put_due` meets its contract. Assumes nothing.
-use borrow.Author.Rules.{rules}
 use native.Mathlib.Omega.{arith}
 use Rattle.saving.proofs.FileBytes.{weights_due, row_due}
 use Rattle.saving.proofs.put_due.Goals as goal

@@ -1,5 +1,4 @@
 -- `saving::put_head` meets its contract: four writers in a row. Assumes nothing.
-use borrow.Author.Rules.{rules}
 use mathlib.Core.List.{List, ◌++◌}
 use mathlib.Core.Path.{◌≡◌}
 use Prim.Native.Nat.{ℕ}

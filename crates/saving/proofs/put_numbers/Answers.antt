@@ -1,5 +1,4 @@
 -- `saving::put_numbers` meets its contract: the numbers' words, and the file of these. Assumes nothing.
-use borrow.Author.Rules.{rules}
 use mathlib.Core.Path.{sym, ap, ◌∙◌}
 use native.Mathlib.Omega.{arith}
 use lib.ListN.{length}

@@ -11,8 +11,8 @@ use Rattle.definitions.specs.Saving.{bytes_due, records_bytes, sheet_file}
 use Rattle.counts.proofs.Counts.{rows_few}
 use Rattle.buffer.specs.Pasted.{Room, Written}
 use Rattle.buffer.proofs.Growing.{Turn, turn}
-use Rattle.buffer.proofs.Pasting.{length_written, written_at_start}
-use Rattle.saving.proofs.FileBytes.{row_of, records_of, records_begun, file_grows, head_room, records_room, whole_room, file_written, short, row_inside}
+use Rattle.buffer.proofs.Pasting.{written_at_start}
+use Rattle.saving.proofs.FileBytes.{row_of, records_of, records_begun, file_grows, head_room, records_room, file_written, short, row_inside}
 use Rattle.saving.proofs.put_sheet.Goals as goal
 use Rattle.saving.proofs.put_sheet.Goals.{After-loop-i, In-loop-i}
 

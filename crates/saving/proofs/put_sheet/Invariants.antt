@@ -1,18 +1,7 @@
 -- `saving::put_sheet` meets its contract. The loop's invariant: behind the head the first i records are written. Assumes nothing.
-use mathlib.Core.Path.{◌≡◌}
-use Prim.Native.Nat.{ℕ, ◌+◌, ◌-◌, ◌*◌, ◌≤◌, ◌<◌}
-use native.Mathlib.Omega.{arith}
-use mathlib.Core.List.{List}
-use lib.ListN.{length}
-use mir.Syntax.{w64}
-use mir.ValLaws.{to_z-of_z}
-use Rattle.definitions.specs.Sheet.{sheet_rows}
-use Rattle.definitions.specs.Saving.{bytes_due, records_bytes, sheet_file}
-use Rattle.counts.proofs.Counts.{rows_few}
-use Rattle.buffer.specs.Pasted.{Room, Written}
-use Rattle.buffer.proofs.Growing.{Turn, turn}
-use Rattle.buffer.proofs.Pasting.{length_written, written_at_start}
-use Rattle.saving.proofs.FileBytes.{row_of, records_of, records_begun, file_grows, head_room, records_room, whole_room, file_written, short, row_inside}
+use Prim.Native.Nat.{◌-◌, ◌≤◌}
+use Rattle.definitions.specs.Saving.{records_bytes}
+use Rattle.buffer.specs.Pasted.{Written}
 use Rattle.saving.proofs.put_sheet.Given as goal
 
 abbrev pub invariant-loop-i : goal.invariant-loop-i

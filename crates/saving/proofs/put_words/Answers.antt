@@ -1,5 +1,5 @@
 -- `saving::put_words` meets its contract. The loop's invariant: the first k words are written. Assumes nothing.
-use Prim.Native.Nat.{ℕ, ◌+◌, ◌-◌, ◌≤◌, ◌<◌}
+use Prim.Native.Nat.{ℕ, ◌+◌, ◌<◌}
 use native.Mathlib.Omega.{arith}
 use mathlib.Core.List.{List}
 use lib.ListN.{length, take, get_or}
@@ -7,7 +7,6 @@ use lib.Seq.{take-length, take_all}
 use Rattle.definitions.specs.Saving.{little_bytes, word_bytes}
 use Rattle.buffer.specs.Pasted.{Room, Written}
 use Rattle.buffer.proofs.Growing.{Turn, turn}
-use Rattle.buffer.proofs.Pasting.{length_written}
 use Rattle.saving.proofs.FileBytes.{words-begun, words_grow}
 use Rattle.saving.proofs.put_words.Goals as goal
 

@@ -1,14 +1,8 @@
 -- `saving::put_words` meets its contract. The loop's invariant: the first k words are written. Assumes nothing.
-use Prim.Native.Nat.{ℕ, ◌+◌, ◌-◌, ◌≤◌, ◌<◌}
-use native.Mathlib.Omega.{arith}
-use mathlib.Core.List.{List}
-use lib.ListN.{length, take, get_or}
-use lib.Seq.{take-length, take_all}
-use Rattle.definitions.specs.Saving.{little_bytes, word_bytes}
-use Rattle.buffer.specs.Pasted.{Room, Written}
-use Rattle.buffer.proofs.Growing.{Turn, turn}
-use Rattle.buffer.proofs.Pasting.{length_written}
-use Rattle.saving.proofs.FileBytes.{words-begun, words_grow}
+use Prim.Native.Nat.{◌-◌, ◌≤◌}
+use lib.ListN.{length, take}
+use Rattle.definitions.specs.Saving.{word_bytes}
+use Rattle.buffer.specs.Pasted.{Written}
 use Rattle.saving.proofs.put_words.Given as goal
 
 abbrev pub invariant-loop-k : goal.invariant-loop-k

@@ -1,12 +1,11 @@
 -- `schur::add_two` meets its contract: at column j the columns before it are done. Assumes nothing.
 use mathlib.Core.Path.{refl, ◌∙◌}
-use Prim.Native.Nat.{◌≤◌, ◌-◌, suc}
+use Prim.Native.Nat.{suc}
 use native.Mathlib.Numerals.{add-one}
 use native.Mathlib.Omega.{arith}
 use borrow.Author.Rules.{rules}
 use Rattle.tables.specs.RowMajor.{table}
-use Rattle.tables.proofs.Loops.{Along, along_begins, along_due, along_else, along_turns, along_ends}
-use Rattle.passes.specs.Stages.{plus_two}
+use Rattle.tables.proofs.Loops.{along_begins, along_due, along_else, along_turns, along_ends}
 use Rattle.schur.proofs.SchurRows.{plus_two_lem}
 use Rattle.schur.proofs.add_two.Goals as goal
 

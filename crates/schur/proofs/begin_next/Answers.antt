@@ -1,11 +1,9 @@
 -- `schur::begin_next` meets its contract: at row i column k + 1 of the rows before it is done. Assumes nothing.
 use mathlib.Core.Path.{◌≡◌}
-use Prim.Native.Nat.{◌≤◌, ◌+◌, ◌-◌, suc}
+use Prim.Native.Nat.{◌+◌, suc}
 use native.Mathlib.Omega.{arith}
-use borrow.Author.Rules.{rules}
 use Rattle.tables.specs.RowMajor.{table}
-use Rattle.tables.proofs.Loops.{Down, down_begins, down_ends}
-use Rattle.passes.specs.Stages.{column_row}
+use Rattle.tables.proofs.Loops.{down_begins, down_ends}
 use Rattle.schur.proofs.SchurRows.{column_turns, next-begun}
 use Rattle.schur.proofs.begin_next.Goals as goal
 

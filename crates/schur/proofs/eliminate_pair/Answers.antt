@@ -1,11 +1,9 @@
 -- `schur::eliminate_pair` meets its contract: at row i the rows from k + 2 before it are done. Assumes nothing.
 use mathlib.Core.Path.{◌≡◌}
-use Prim.Native.Nat.{◌≤◌, ◌+◌, ◌-◌, suc}
+use Prim.Native.Nat.{◌+◌, suc}
 use native.Mathlib.Omega.{arith}
-use borrow.Author.Rules.{rules}
-use Rattle.tables.specs.RowMajor.{table}
-use Rattle.tables.proofs.Loops.{Down, down_begins, down_ends}
-use Rattle.passes.specs.Stages.{pair_row, pair_rows}
+use Rattle.tables.proofs.Loops.{down_begins, down_ends}
+use Rattle.passes.specs.Stages.{pair_rows}
 use Rattle.schur.proofs.SchurRows.{pair_turns}
 use Rattle.schur.proofs.eliminate_pair.Goals as goal
 

@@ -1,12 +1,8 @@
 -- `schur::eliminate_pair` meets its contract: at row i the rows from k + 2 before it are done. Assumes nothing.
-use mathlib.Core.Path.{◌≡◌}
-use Prim.Native.Nat.{◌≤◌, ◌+◌, ◌-◌, suc}
-use native.Mathlib.Omega.{arith}
-use borrow.Author.Rules.{rules}
+use Prim.Native.Nat.{◌≤◌, ◌-◌, suc}
 use Rattle.tables.specs.RowMajor.{table}
-use Rattle.tables.proofs.Loops.{Down, down_begins, down_ends}
-use Rattle.passes.specs.Stages.{pair_row, pair_rows}
-use Rattle.schur.proofs.SchurRows.{pair_turns}
+use Rattle.tables.proofs.Loops.{Down}
+use Rattle.passes.specs.Stages.{pair_row}
 use Rattle.schur.proofs.eliminate_pair.Given as goal
 
 abbrev pub invariant-loop-i : goal.invariant-loop-i

@@ -1,5 +1,4 @@
 -- `schur::eliminate_row` meets its contract. Assumes nothing.
-use borrow.Author.Rules.{rules}
 use Rattle.tables.specs.RowMajor.{table}
 use Rattle.schur.proofs.SchurRows.{row_eliminated}
 use Rattle.schur.proofs.eliminate_row.Goals as goal

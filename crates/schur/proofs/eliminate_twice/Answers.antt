@@ -1,5 +1,4 @@
 -- `schur::eliminate_twice` meets its contract. Assumes nothing.
-use borrow.Author.Rules.{rules}
 use Rattle.tables.specs.RowMajor.{table}
 use Rattle.schur.proofs.SchurRows.{row_eliminated_twice}
 use Rattle.schur.proofs.eliminate_twice.Goals as goal

@@ -1,5 +1,4 @@
 -- `shape::ask_move` meets its contract: by then the sheet holds as many numbers as it should. Assumes nothing.
-use borrow.Author.Rules.{rules}
 use mir.Syntax.{w64}
 use mir.ValLaws.{to_z-of_z}
 use Rattle.answers.proofs.Outcome.{passed, ends, goes_on}

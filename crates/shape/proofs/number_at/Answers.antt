@@ -1,6 +1,5 @@
 -- `shape::number_at` meets its contract. Assumes nothing.
 use native.Mathlib.Omega.{arith}
-use borrow.Author.Rules.{rules}
 use Rattle.shape.proofs.Square.{place_inside}
 use Rattle.shape.proofs.number_at.Goals as goal
 

@@ -1,5 +1,4 @@
 -- `shape::weights_of` meets its contract. Assumes nothing.
-use borrow.Author.Rules.{rules}
 use native.Mathlib.Nat.{le_of_eq}
 use Prim.Native.Nat.{◌*◌}
 use lib.ListN.{drop, length-drop}

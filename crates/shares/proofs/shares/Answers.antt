@@ -1,15 +1,10 @@
 -- `shares::shares` meets its contract: at stage j the stages before it are done and tested. Assumes nothing.
-use mathlib.Core.Path.{◌≡◌, ap₂, ◌∙◌}
-use Prim.Native.Nat.{◌≤◌, ◌-◌}
+use mathlib.Core.Path.{ap₂, ◌∙◌}
 use native.Mathlib.Omega.{arith}
-use lib.Dec.{ltb}
 use borrow.Author.Rules.{rules}
 use Rattle.definitions.specs.Numbers.{◌⊘◌, div_in_range}
-use Rattle.definitions.specs.Compact.{rank}
 use Rattle.rounding.proofs.ResultRange.{quotient_test}
-use Rattle.tables.specs.Vectors.{vector}
 use Rattle.compact.specs.Listing.{marked}
-use Rattle.shares.specs.Shares.{Shares}
 use Rattle.shares.proofs.Sharing.{above_none, above_turns, shares_begin, shares_turn, shares_end}
 use Rattle.shares.proofs.shares.Goals as goal
 
@@ -17,12 +12,11 @@ pub put-requires : goal.put-requires
 put-requires c = (omega arith, c.loop-j.invariant.1.long)
 
 pub loop-j-preserved : goal.loop-j-preserved
-loop-j-preserved c =
-    (
-      omega arith,
-      shares_turn (marked c.args.kept.now) c.loop-j.invariant.1 c.loop-j.invariant.2 (c.result_in_range-step.ensures ∙ quotient_test c.get-x.result c.get-y.result ∙ ap₂ div_in_range c.get-x.ensures c.get-y.ensures) (ap₂ ◌⊘◌ c.get-x.ensures c.get-y.ensures) c.put.ensures,
-      above_turns (marked c.args.kept.now) c.loop-j.j c.loop-j.invariant.2,
-    )
+loop-j-preserved c = (
+  omega arith,
+  shares_turn (marked c.args.kept.now) c.loop-j.invariant.1 c.loop-j.invariant.2 (c.result_in_range-step.ensures ∙ quotient_test c.get-x.result c.get-y.result ∙ ap₂ div_in_range c.get-x.ensures c.get-y.ensures) (ap₂ ◌⊘◌ c.get-x.ensures c.get-y.ensures) c.put.ensures,
+  above_turns (marked c.args.kept.now) c.loop-j.j c.loop-j.invariant.2,
+)
 
 pub returns : goal.returns
 returns c = shares_end (marked c.args.kept.now) c.loop-j.invariant.1 (omega arith) (omega arith)

@@ -1,16 +1,11 @@
 -- `shares::shares` meets its contract: at stage j the stages before it are done and tested. Assumes nothing.
-use mathlib.Core.Path.{◌≡◌, ap₂, ◌∙◌}
+use mathlib.Core.Path.{◌≡◌}
 use Prim.Native.Nat.{◌≤◌, ◌-◌}
-use native.Mathlib.Omega.{arith}
 use lib.Dec.{ltb}
-use borrow.Author.Rules.{rules}
-use Rattle.definitions.specs.Numbers.{◌⊘◌, div_in_range}
 use Rattle.definitions.specs.Compact.{rank}
-use Rattle.rounding.proofs.ResultRange.{quotient_test}
 use Rattle.tables.specs.Vectors.{vector}
 use Rattle.compact.specs.Listing.{marked}
 use Rattle.shares.specs.Shares.{Shares}
-use Rattle.shares.proofs.Sharing.{above_none, above_turns, shares_begin, shares_turn, shares_end}
 use Rattle.shares.proofs.shares.Given as goal
 
 abbrev pub invariant-loop-j : goal.invariant-loop-j

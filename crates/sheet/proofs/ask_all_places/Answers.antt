@@ -1,5 +1,4 @@
 -- `sheet::ask_all_places` meets its contract. Assumes nothing.
-use borrow.Author.Rules.{rules}
 use Rattle.exact.proofs.Bools.{holds}
 use Rattle.answers.proofs.Outcome.{all_pass, ends, goes_on, in_other_words}
 use Rattle.places.proofs.PlaceQuestions.{in_order_lem}

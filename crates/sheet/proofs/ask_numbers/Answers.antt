@@ -1,5 +1,4 @@
 -- `sheet::ask_numbers` meets its contract. Assumes nothing.
-use borrow.Author.Rules.{rules}
 use borrow.Author.Tests.{not-true, not-false}
 use Rattle.definitions.specs.Questions.{number_questions}
 use Rattle.answers.proofs.Outcome.{ends, goes_on}

@@ -1,7 +1,6 @@
 -- `stage::begin` meets its contract. Assumes nothing.
 use native.Mathlib.Omega.{arith}
 use lib.Ieee.{of_bits}
-use borrow.Author.Rules.{rules}
 use Rattle.tables.specs.RowMajor.{table}
 use Rattle.passes.specs.Weights.{weights_in}
 use Rattle.bounds.proofs.Bounds.{bound-one}

@@ -1,6 +1,5 @@
 -- `stage::eliminate_pair` meets its contract. Assumes nothing.
 use native.Mathlib.Omega.{arith}
-use borrow.Author.Rules.{rules}
 use Rattle.tables.specs.RowMajor.{table}
 use Rattle.passes.specs.Weights.{weights_in}
 use Rattle.stage.proofs.StageSteps.{pair_eliminated, pair_last}

@@ -1,5 +1,4 @@
 -- `stage::last` meets its contract. Assumes nothing.
-use borrow.Author.Rules.{rules}
 use Rattle.tables.specs.RowMajor.{table}
 use Rattle.passes.specs.Weights.{weights_in}
 use Rattle.passes.proofs.PairStages.{last-stage}

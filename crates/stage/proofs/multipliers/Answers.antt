@@ -1,14 +1,10 @@
 -- `stage::multipliers` meets its contract: at row i the rows before it are done and told. Assumes nothing.
-use Prim.Native.Nat.{ℕ, ◌≤◌, ◌-◌, suc}
 use native.Mathlib.Numerals.{add-one}
 use native.Mathlib.Omega.{arith}
-use lib.Ieee.{Float}
 use borrow.Author.Rules.{rules}
-use Rattle.tables.specs.RowMajor.{table}
-use Rattle.tables.proofs.Loops.{Down, down_begins, down_else, down_ends}
-use Rattle.passes.specs.Stages.{row_test, multiplier_row, multiplied_rows}
-use Rattle.passes.specs.StageTests.{RowFinite, Alike}
-use Rattle.passes.proofs.Told.{ToldEach, told_begins, told_turns, told_ends}
+use Rattle.tables.proofs.Loops.{down_begins, down_else, down_ends}
+use Rattle.passes.specs.Stages.{multiplied_rows}
+use Rattle.passes.proofs.Told.{told_begins, told_turns, told_ends}
 use Rattle.stage.proofs.StageSteps.{row_told, multiplied_turns}
 use Rattle.stage.proofs.multipliers.Goals as goal
 

@@ -1,5 +1,4 @@
 -- `table_calls::prices` meets its contract. Assumes nothing.
-use borrow.Author.Rules.{rules}
 use mir.Syntax.{w64}
 use mir.ValLaws.{to_z-of_z}
 use Rattle.table_calls.proofs.TableCalls.{prices_call}

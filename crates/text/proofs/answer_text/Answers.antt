@@ -1,5 +1,4 @@
 -- `text::answer_text` meets its contract: the answer, case by case. Assumes nothing.
-use borrow.Author.Rules.{rules}
 use mir.Syntax.{w64}
 use mir.ValLaws.{to_z-of_z}
 use Rattle.text.specs.AnswerText.{answer_text}

@@ -1,7 +1,5 @@
 -- `text::put_seconds` meets its contract: four writers in a row. Assumes nothing.
-use borrow.Author.Rules.{rules}
-use mathlib.Core.List.{List, ◌++◌}
-use Prim.Native.Nat.{ℕ}
+use mathlib.Core.List.{◌++◌}
 use mir.Syntax.{w64}
 use mir.ValLaws.{to_z-of_z}
 use Rattle.definitions.specs.Dwell.{text}

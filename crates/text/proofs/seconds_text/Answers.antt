@@ -1,7 +1,5 @@
 -- `text::seconds_text` meets its contract: the first line and the table, for which the buffer has room. Assumes nothing.
-use borrow.Author.Rules.{rules}
-use mathlib.Core.List.{List, ◌++◌}
-use Prim.Native.Nat.{ℕ}
+use mathlib.Core.List.{◌++◌}
 use native.Mathlib.Omega.{arith}
 use mir.Syntax.{w64}
 use mir.ValLaws.{to_z-of_z}

@@ -1,18 +1,15 @@
 -- `trapped::ask_marked` meets its contract: every stage before i is idle or marked. Assumes nothing.
-use mathlib.Core.Logic.{⊎_elim}
 use mathlib.Core.Path.{◌≡◌, ◌∙◌}
 use mathlib.Core.Bool.{Bool, true, false, not, ◌||◌, or-true}
 use mathlib.Core.List.{List}
-use Prim.Native.Nat.{ℕ, ◌≤◌, ◌-◌, zero-le}
+use Prim.Native.Nat.{ℕ, zero-le}
 use native.Mathlib.Omega.{arith}
-use borrow.Author.Rules.{rules}
 use borrow.Author.Tests.{not-true, not-false}
 use lib.Ieee.{Float}
 use Rattle.exact.proofs.Bools.{denied, granted}
 use Rattle.definitions.specs.Sheet.{idle}
-use Rattle.definitions.specs.Questions.{ask_stages}
 use Rattle.answers.proofs.Outcome.{all_pass, no}
-use Rattle.steps.proofs.Searches.{from_stage, all-stages, good-stage, bad_stage, no_stage}
+use Rattle.steps.proofs.Searches.{all-stages, good-stage, bad_stage, no_stage}
 use Rattle.marks.specs.declared.Marks.{Marks}
 use Rattle.marks.specs.Marks.{is_marked}
 use mathlib.Core.Path.{ap}
@@ -43,10 +40,10 @@ loop-i-preserved c =
     let marks = c.args.marks in (
       omega arith,
       elim c.else-not-marks-i.branch [
-        else-not-marks-i-via-then-not-marks-i+else-not-is_idle w ↦
-          c.loop-i.invariant.1 ∙ good-stage _ _ _ _ c.loop-i-test.true (idle-passes _ _ marks _ w.is_idle.ensures (ap not w.if-not-is_idle.false))
-      | else-not-marks-i-via-else-not-marks-i w ↦
-          c.loop-i.invariant.1 ∙ good-stage _ _ _ _ c.loop-i-test.true (marked-passes _ _ marks _ (ap not w.if-not-marks-i.false))
+        | else-not-marks-i-via-then-not-marks-i+else-not-is_idle w ↦
+            c.loop-i.invariant.1 ∙ good-stage _ _ _ _ c.loop-i-test.true (idle-passes _ _ marks _ w.is_idle.ensures (ap not w.if-not-is_idle.false))
+        | else-not-marks-i-via-else-not-marks-i w ↦
+            c.loop-i.invariant.1 ∙ good-stage _ _ _ _ c.loop-i-test.true (marked-passes _ _ marks _ (ap not w.if-not-marks-i.false))
       ],
     )
 

@@ -5,7 +5,6 @@ use mathlib.Core.List.{List}
 use Prim.Native.Nat.{ℕ}
 use native.Mathlib.Omega.{arith}
 use borrow.Author.Tests.{ne_eqb}
-use borrow.Author.Rules.{rules}
 use lib.Ieee.{Float}
 use Rattle.definitions.specs.Sheet.{idle}
 use Rattle.definitions.specs.Questions.{pass, question9, gets_out, not_trapped, ask_stages}

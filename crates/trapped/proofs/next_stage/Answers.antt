@@ -1,11 +1,8 @@
 -- `trapped::next_stage` meets its contract. Assumes nothing.
-use mathlib.Core.Path.{◌≡◌}
-use mathlib.Core.Bool.{true}
-use Prim.Native.Nat.{ℕ, ◌≤◌, ◌<◌, ◌-◌, zero-le}
+use Prim.Native.Nat.{zero-le}
 use native.Mathlib.Omega.{arith}
 use borrow.Author.Count.{below_more}
-use Rattle.marks.specs.Marks.{is_marked}
-use Rattle.trapped.proofs.Reaching.{is_done, next_waits, not-next}
+use Rattle.trapped.proofs.Reaching.{next_waits, not-next}
 use Rattle.trapped.proofs.next_stage.Goals as goal
 
 pub returns-then-marks-i : goal.returns-then-marks-i

@@ -1,11 +1,9 @@
 -- `trapped::next_stage` meets its contract. Assumes nothing.
 use mathlib.Core.Path.{◌≡◌}
 use mathlib.Core.Bool.{true}
-use Prim.Native.Nat.{ℕ, ◌≤◌, ◌<◌, ◌-◌, zero-le}
-use native.Mathlib.Omega.{arith}
-use borrow.Author.Count.{below_more}
+use Prim.Native.Nat.{ℕ, ◌≤◌, ◌<◌, ◌-◌}
 use Rattle.marks.specs.Marks.{is_marked}
-use Rattle.trapped.proofs.Reaching.{is_done, next_waits, not-next}
+use Rattle.trapped.proofs.Reaching.{is_done}
 use Rattle.trapped.proofs.next_stage.Given as goal
 
 abbrev pub invariant-loop-i : goal.invariant-loop-i

@@ -3,9 +3,8 @@ use mathlib.Core.Path.{◌≡◌}
 use mathlib.Core.Bool.{true, false}
 use Prim.Native.Nat.{◌<◌}
 use native.Mathlib.Omega.{arith}
-use borrow.Author.Rules.{rules}
 use Rattle.marks.specs.Marks.{is_marked}
-use Rattle.trapped.proofs.Reaching.{is_done, to_do, Reached, reached_begins, reached_turns, fewer_to_do, reached_all, reached_closed}
+use Rattle.trapped.proofs.Reaching.{is_done, reached_begins, reached_turns, fewer_to_do, reached_all, reached_closed}
 use Rattle.trapped.proofs.reach.Goals as goal
 use Rattle.trapped.proofs.reach.Goals.{Else-j-n}
 

@@ -1,12 +1,9 @@
 -- `turns::add_done` meets its contract: the blocks before the one that is due are done. Assumes nothing.
 use mathlib.Core.Path.{refl}
-use Prim.Native.Nat.{◌≤◌, ◌<◌, ◌*◌, ◌-◌}
+use Prim.Native.Nat.{◌≤◌, ◌<◌, ◌*◌}
 use native.Mathlib.Omega.{arith}
-use borrow.Author.Rules.{rules}
-use Rattle.tables.specs.RowMajor.{table}
-use Rattle.passes.specs.RowPass.{turn, reach}
-use Rattle.turns.specs.Turns.{skipped}
-use Rattle.turns.proofs.Turns.{turn_below, reach-below, skipped-below, skipped_reaches, Blocks, blocks_begin, blocks_turn, blocks_end}
+use Rattle.passes.specs.RowPass.{reach}
+use Rattle.turns.proofs.Turns.{turn_below, reach-below, skipped-below, skipped_reaches, blocks_begin, blocks_turn, blocks_end}
 use Rattle.turns.proofs.add_done.Goals as goal
 use Rattle.turns.proofs.add_done.Goals.{After-reach-width, After-skipped-from, After-turn-i, In-loop-block}
 
@@ -42,14 +39,13 @@ add_rows-requires c =
     )
 
 pub loop-block-preserved : goal.loop-block-preserved
-loop-block-preserved c =
-    (
-      omega (arith, c.loop-block-test.true),
-      blocks_turn c.loop-block.invariant.1 c.requires.1 c.requires.0 c.requires.4
-          (rw (← c.skipped-from.ensures) (within (goal.at.loop-block-preserved c).After-skipped-from))
-          (rw (c.turn-first.ensures, c.skipped-from.ensures, c.turn-i.ensures) at c.add_rows.ensures)
-          (omega arith),
-    )
+loop-block-preserved c = (
+  omega (arith, c.loop-block-test.true),
+  blocks_turn c.loop-block.invariant.1 c.requires.1 c.requires.0 c.requires.4
+      (rw (← c.skipped-from.ensures) (within (goal.at.loop-block-preserved c).After-skipped-from))
+      (rw (c.turn-first.ensures, c.skipped-from.ensures, c.turn-i.ensures) at c.add_rows.ensures)
+      (omega arith),
+)
 
 pub returns : goal.returns
 returns c =

@@ -1,12 +1,7 @@
 -- `turns::add_done` meets its contract: the blocks before the one that is due are done. Assumes nothing.
-use mathlib.Core.Path.{refl}
-use Prim.Native.Nat.{◌≤◌, ◌<◌, ◌*◌, ◌-◌}
-use native.Mathlib.Omega.{arith}
-use borrow.Author.Rules.{rules}
+use Prim.Native.Nat.{◌≤◌, ◌*◌, ◌-◌}
 use Rattle.tables.specs.RowMajor.{table}
-use Rattle.passes.specs.RowPass.{turn, reach}
-use Rattle.turns.specs.Turns.{skipped}
-use Rattle.turns.proofs.Turns.{turn_below, reach-below, skipped-below, skipped_reaches, Blocks, blocks_begin, blocks_turn, blocks_end}
+use Rattle.turns.proofs.Turns.{Blocks}
 use Rattle.turns.proofs.add_done.Given as goal
 
 abbrev pub invariant-loop-block : goal.invariant-loop-block

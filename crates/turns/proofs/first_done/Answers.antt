@@ -1,5 +1,4 @@
 -- `turns::first_done` meets its contract. Assumes nothing.
-use borrow.Author.Rules.{rules}
 use Rattle.turns.specs.Turns.{first_done}
 use Rattle.turns.proofs.first_done.Goals as goal
 

@@ -1,6 +1,5 @@
 -- `turns::reach` meets its contract. Assumes nothing.
 use native.Mathlib.Omega.{arith}
-use borrow.Author.Rules.{rules}
 use Rattle.passes.specs.RowPass.{reach}
 use Rattle.turns.proofs.reach.Goals as goal
 

@@ -1,6 +1,5 @@
 -- `turns::turn` meets its contract. Assumes nothing.
 use native.Mathlib.Omega.{arith}
-use borrow.Author.Rules.{rules}
 use Rattle.passes.specs.RowPass.{turn}
 use Rattle.turns.proofs.turn.Goals as goal
 

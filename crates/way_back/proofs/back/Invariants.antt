@@ -1,18 +1,13 @@
 -- `way_back::back` meets its contract: at place p the rows before it are done and tested. Assumes nothing.
-use mathlib.Core.Path.{refl, ap, ap₂, ◌∙◌}
 use Prim.Native.Nat.{◌≤◌, ◌-◌}
-use native.Mathlib.Nat.{le_refl}
-use native.Mathlib.Omega.{arith}
-use borrow.Author.Rules.{rules}
 use Rattle.definitions.specs.Numbers.{all}
-use Rattle.steps.proofs.Gathering.{Gathered, gathered_begins, gathered_turns, gathered_all}
+use Rattle.steps.proofs.Gathering.{Gathered}
 use Rattle.tables.specs.RowMajor.{table}
-use Rattle.tables.specs.Operators.{between, span}
+use Rattle.tables.specs.Operators.{between}
 use Rattle.tables.specs.Rows.{times_in_range}
 use Rattle.tables.specs.Vectors.{vector}
-use Rattle.tables.proofs.Loops.{Down, down_begins, down_due, down_turns, down_ends}
+use Rattle.tables.proofs.Loops.{Down}
 use Rattle.compact.specs.Listing.{stage_at}
-use Rattle.compact.proofs.Listings.{stage-below}
 use Rattle.way_back.specs.WayBack.{multiple}
 use Rattle.way_back.proofs.back.Given as goal
 

@@ -1,11 +1,7 @@
 -- `writing::write` meets its contract: at row i the rows before it are written. Assumes nothing.
 use Prim.Native.Nat.{◌-◌}
-use native.Mathlib.Nat.{le_trans}
-use native.Mathlib.Omega.{arith}
-use borrow.Author.Rules.{rules}
 use Rattle.tables.specs.RowMajor.{table}
-use Rattle.counts.proofs.Counts.{square_small}
-use Rattle.writing.proofs.FilledRows.{FilledRows, rows_begin, rows-turn, rows_end, row_fits, part_short}
+use Rattle.writing.proofs.FilledRows.{FilledRows}
 use Rattle.writing.proofs.write.Given as goal
 
 abbrev pub invariant-loop-i : goal.invariant-loop-i

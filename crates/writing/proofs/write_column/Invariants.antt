@@ -1,9 +1,7 @@
 -- `writing::write_column` meets its contract: at row i the places before it are written. Assumes nothing.
 use Prim.Native.Nat.{◌≤◌, ◌-◌}
-use native.Mathlib.Omega.{arith}
-use borrow.Author.Rules.{rules}
 use Rattle.tables.specs.Vectors.{vector}
-use Rattle.writing.proofs.FilledRows.{Filled, filled_begins, filled_turns, filled_to}
+use Rattle.writing.proofs.FilledRows.{Filled}
 use Rattle.writing.proofs.write_column.Given as goal
 
 abbrev pub invariant-loop-i : goal.invariant-loop-i

@@ -1,10 +1,6 @@
 -- `writing::write_row` meets its contract: at column j the places before it are written. Assumes nothing.
-use Prim.Native.Nat.{◌-◌}
 use native.Mathlib.Omega.{arith}
-use borrow.Author.Rules.{rules}
-use lib.ListN.{length}
-use Rattle.tables.specs.RowMajor.{table}
-use Rattle.writing.proofs.FilledRows.{Filled, filled_begins, filled_turns, filled_ends}
+use Rattle.writing.proofs.FilledRows.{filled_begins, filled_turns, filled_ends}
 use Rattle.writing.proofs.write_row.Goals as goal
 
 pub loop-j-preserved : goal.loop-j-preserved

@@ -1,10 +1,8 @@
 -- `writing::write_row` meets its contract: at column j the places before it are written. Assumes nothing.
 use Prim.Native.Nat.{◌-◌}
-use native.Mathlib.Omega.{arith}
-use borrow.Author.Rules.{rules}
 use lib.ListN.{length}
 use Rattle.tables.specs.RowMajor.{table}
-use Rattle.writing.proofs.FilledRows.{Filled, filled_begins, filled_turns, filled_ends}
+use Rattle.writing.proofs.FilledRows.{Filled}
 use Rattle.writing.proofs.write_row.Given as goal
 
 abbrev pub invariant-loop-j : goal.invariant-loop-j

@@ -1,12 +1,9 @@
 -- `tables::row::clear` meets its contract: at column j the columns before it are done. Assumes nothing.
 use mathlib.Core.Path.{refl}
-use Prim.Native.Nat.{◌≤◌, ◌-◌}
 use native.Mathlib.Omega.{arith}
 use borrow.Author.Rules.{rules}
 use lib.Ieee.{of_bits}
-use Rattle.definitions.specs.Numbers.{0·0}
-use Rattle.tables.specs.RowMajor.{table}
-use Rattle.tables.proofs.Loops.{Along, along_begins, along_turns, along_ends}
+use Rattle.tables.proofs.Loops.{along_begins, along_turns, along_ends}
 use Rattle.tables.proofs.row.clear.Goals as goal
 
 pub loop-j-preserved : goal.loop-j-preserved

@@ -1,5 +1,4 @@
 -- `tables::row::get` meets its contract. Assumes nothing.
-use borrow.Author.Rules.{rules}
 use lib.Ieee.{nan}
 use Rattle.tables.proofs.RowMajor.{read_holds}
 use Rattle.tables.proofs.row.get.Goals as goal

@@ -1,5 +1,4 @@
 -- `tables::row::put` meets its contract. Assumes nothing.
-use borrow.Author.Rules.{rules}
 use Rattle.tables.proofs.RowMajor.{write_holds}
 use Rattle.tables.proofs.row.put.Goals as goal
 

@@ -1,5 +1,4 @@
 -- `tables::vector::get` meets its contract. Assumes nothing.
-use borrow.Author.Rules.{rules}
 use lib.Ieee.{nan}
 use Rattle.tables.proofs.Vectors.{read_vector}
 use Rattle.tables.proofs.vector.get.Goals as goal

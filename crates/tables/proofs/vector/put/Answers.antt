@@ -1,5 +1,4 @@
 -- `tables::vector::put` meets its contract. Assumes nothing.
-use borrow.Author.Rules.{rules}
 use Rattle.tables.proofs.Vectors.{write_vector}
 use Rattle.tables.proofs.vector.put.Goals as goal
 
