@@ -4,6 +4,7 @@ use mathlib.Core.Path.{◌≡◌, ◌∙◌}
 use mathlib.Core.Bool.{true}
 use lib.ListN.{length, drop}
 use native.Mathlib.Omega.{arith}
+use borrow.Author.Rules.{rules}
 use mir.Syntax.{w64}
 use mir.Val.{to_z, of_z}
 use mir.ValLaws.{to_z-of_z}
@@ -17,7 +18,7 @@ use Rattle.file_questions.proofs.Judging.{head_read, head_cut, head_bad, record_
 use mathlib.Core.Path.{ap}
 use mathlib.Core.Bool.{not}
 use Rattle.file_questions.proofs.judge.Goals as goal
-use Rattle.file_questions.proofs.judge.Goals.{Else-at-bytes, Else-not-is_good_head, Else-not-is_whole, Else-not-is_whole-2}
+use Rattle.file_questions.proofs.judge.Goals.{After-numbers-places, Else-not-is_good_head, Else-not-is_whole, Else-not-is_whole-2}
 
 pub returns-then-not-is_whole : goal.returns-then-not-is_whole
 returns-then-not-is_whole c =
@@ -114,22 +115,22 @@ returns-then-at-bytes c =
     (c.loop-due.invariant.left ∙ bytes_after c.args.bytes.now c.args.room c.field_at-n.result c.rows-rows.result (sheet_numbers c.field_at-reading.result c.field_at-n.result) c.loop-due.at c.loop-due.due c.loop-due-test.false c.loop-due.invariant.inside c.if-at-bytes.true)
 
 -- After the last record only question 4 is left, of as many places as the code counted.
-records_done : (c : goal.Else-at-bytes) → file_questions c.args.bytes.now c.args.room ≡ question4 c.numbers-places.result c.args.room
-records_done c =
+records_done : (c : goal.After-numbers-places) → c.loop-due.at ≡ length c.args.bytes.now → file_questions c.args.bytes.now c.args.room ≡ question4 c.numbers-places.result c.args.room
+records_done c end =
     rw c.numbers-places.ensures
-    (c.loop-due.invariant.left ∙ at_end c.args.bytes.now c.args.room c.field_at-n.result c.rows-rows.result (sheet_numbers c.field_at-reading.result c.field_at-n.result) c.loop-due.at c.loop-due.due c.loop-due-test.false c.if-at-bytes.false)
+    (c.loop-due.invariant.left ∙ at_end c.args.bytes.now c.args.room c.field_at-n.result c.rows-rows.result (sheet_numbers c.field_at-reading.result c.field_at-n.result) c.loop-due.at c.loop-due.due c.loop-due-test.false end)
 
 pub returns-then-room-places : goal.returns-then-room-places
 returns-then-room-places c =
     refused_by c.args.bytes.now c.args.room 4 0 c.refused-then-room-places.result c.refused-then-room-places.ensures
-    (records_done (goal.at.returns-then-room-places c).Else-at-bytes ∙ room_short _ c.args.room c.if-room-places.true)
+    (records_done (goal.at.returns-then-room-places c).After-numbers-places (search rules) ∙ room_short _ c.args.room c.if-room-places.true)
 
 -- The unit is handed over by its bits, which mean it.
 pub returns : goal.returns
 returns c =
     let unit = c.unit_of-e in
     given_by c.args.bytes.now c.args.room c.field_at-reading.result c.field_at-n.result (to_z w64 (of_z w64 unit.result)) c.loop-due.invariant.kind c.loop-due.invariant.stages (to_z-of_z w64 unit.result (record { sfits = unit.type_inv }) ∙ unit.ensures)
-    (records_done (goal.at.returns c).Else-at-bytes ∙ room_enough _ c.args.room c.if-room-places.false)
+    (records_done (goal.at.returns c).After-numbers-places (search rules) ∙ room_enough _ c.args.room c.if-room-places.false)
 
 pub field_at-reading-requires : goal.field_at-reading-requires
 field_at-reading-requires c = omega (arith, head_held c)

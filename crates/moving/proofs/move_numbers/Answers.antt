@@ -1,4 +1,5 @@
 -- `moving::move_numbers` meets its contract. Assumes nothing.
+use borrow.Author.Rules.{rules}
 use mathlib.Core.Path.{refl, sym, ◌∙◌}
 use mir.Syntax.{w64}
 use mir.ValLaws.{to_z-of_z}
@@ -15,7 +16,7 @@ returns-then-has_room c =
     let rates = c.args.rates.now in
     let room = sym c.if-has_room.true ∙ (rw same at c.has_room.ensures) in
     let first = rates_written c.requires.0 c.shared_slice_known-1.given c.args.area.now (rw same at c.power_of_two-power.ensures) (sym room) c.times_power.ensures in
-    record { value = room; area_after = both_written (map (λ number. times_power c.args.k number) rates) c.args.weights.now c.args.area.now (sym (length-map rates (λ number. times_power c.args.k number))) first c.copy.ensures }
+    record { value = room; area_after = both_written (map (λ number. times_power c.args.k number) rates) c.args.weights.now c.args.area.now (sym (length-map rates (λ number. times_power c.args.k number))) first (search rules) }
 
 pub returns : goal.returns
 returns c =

@@ -1,5 +1,6 @@
 -- `planner::table_of_sheet` meets its contract. Assumes nothing.
 use native.Mathlib.Omega.{arith}
+use borrow.Author.Rules.{rules}
 use lib.ListN.{length}
 use Prim.Native.Nat.{◌*◌, ◌≤◌}
 use Rattle.rounding.proofs.Words.{zero_word}
@@ -31,7 +32,7 @@ returns-then-steps c =
 
 pub returns : goal.returns
 returns c =
-    table_out_of_range c.args.reading c.args.n c.args.e c.args.sheet.now c.args.answer.now c.requires c.steps.ensures c.if-steps.false
+    table_out_of_range c.args.reading c.args.n c.args.e c.args.sheet.now c.args.answer.now c.requires c.steps.ensures (search rules)
 
 pub steps-requires : goal.steps-requires
 steps-requires c = ((input (goal.at.steps-requires c).Start).0, new_table zero_word)

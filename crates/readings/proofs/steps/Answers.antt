@@ -1,5 +1,11 @@
 -- `readings::steps` meets its contract. Assumes nothing.
-use mathlib.Core.Path.{sym, ◌∙◌}
+use Prim.Native.Nat.{ℕ, ◌*◌}
+use mathlib.Core.List.{List}
+use mathlib.Core.Path.{◌≡◌, sym, ◌∙◌}
+use lib.Ieee.{Float}
+use lib.ListN.{drop}
+use borrow.Author.Rules.{rules}
+use Rattle.passes.specs.Weights.{Enough}
 use borrow.Author.Tests.{not-false}
 use Rattle.shape.proofs.Square.{is_square}
 use Rattle.loading.proofs.LoadedSheet.{enough_weights}
@@ -19,10 +25,14 @@ live_stages-requires c = let s = c.requires in (is_square s.0, s.1)
 pub returns-then-some_idle : goal.returns-then-some_idle
 returns-then-some_idle c = rw c.if-reading-eq1.true c.live_stages.ensures
 
+-- Weights that are the sheet's tail are enough.
+enough_of : (n : ℕ) (weights tail : List Float) → Enough n tail → weights ≡ tail → Enough n weights
+enough_of n weights tail h e = rw e h
+
 pub every_stage-requires : goal.every_stage-requires
 every_stage-requires c =
     let s = c.requires in
-    (is_square s.0, rw c.weights_of.ensures (enough_weights s.0), s.1)
+    (is_square s.0, enough_of c.args.n _ (drop (c.args.n * c.args.n) c.args.sheet.now) (enough_weights s.0) (search rules), s.1)
 
 pub returns : goal.returns
 returns c =
