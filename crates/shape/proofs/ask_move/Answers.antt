@@ -1,4 +1,6 @@
 -- `shape::ask_move` meets its contract: by then the sheet holds as many numbers as it should. Assumes nothing.
+use Prim.Native.Nat.{◌≤◌}
+use native.Mathlib.Omega.{arith}
 use mir.Syntax.{w64}
 use mir.ValLaws.{to_z-of_z}
 use Rattle.answers.proofs.Outcome.{passed, ends, goes_on}
@@ -19,8 +21,9 @@ returns-then-room-held c =
 
 pub returns : goal.returns
 returns c =
+    let enough : c.args.held ≤ c.args.room = omega arith in
     let numbers = (sized _ _ _ _ (passed (asked (goal.at.returns c).After-ask_shape-shape) c.if-shape-ne0.false)).numbers in
-    goes_on (asked (goal.at.returns c).After-ask_shape-shape) c.if-shape-ne0.false (good_room _ _ (rw numbers at c.if-room-held.false))
+    goes_on (asked (goal.at.returns c).After-ask_shape-shape) c.if-shape-ne0.false (good_room _ _ (rw numbers at enough))
 
 pub returns-then-shape-ne0 : goal.returns-then-shape-ne0
 returns-then-shape-ne0 c = ends (asked (goal.at.returns-then-shape-ne0 c).After-ask_shape-shape) _ c.if-shape-ne0.true
