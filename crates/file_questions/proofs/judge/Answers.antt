@@ -47,13 +47,10 @@ good_head_lem c =
 known : (c : goal.Else-not-is_good_head) → known_head c.args.bytes.now ≡ true
 known c = (head_read c.args.bytes.now (good_head_lem c)).size
 
-whole_head_1 : (c : goal.Else-not-is_good_head) → whole_record c.args.bytes.now ≡ true
-whole_head_1 c = granted c.is_whole.result (whole_record c.args.bytes.now) c.is_whole.ensures (ap not c.if-not-is_whole.false)
-
-head_held : (c : goal.Else-not-is_good_head) → 10 ≤ length c.args.bytes.now
-head_held c =
+head_held : (c : goal.Else-not-is_good_head) → whole_record c.args.bytes.now ≡ true → 10 ≤ length c.args.bytes.now
+head_held c whole =
     let bytes = c.args.bytes.now in
-    omega (arith, whole_room bytes 0 (whole_head_1 c), at_least-four bytes (known c))
+    omega (arith, whole_room bytes 0 whole, at_least-four bytes (known c))
 
 pub unit_of-e-requires : goal.unit_of-e-requires
 unit_of-e-requires c =
@@ -133,7 +130,9 @@ returns c =
     (records_done (goal.at.returns c).After-numbers-places (search rules) ∙ room_enough _ c.args.room c.if-room-places.false)
 
 pub field_at-reading-requires : goal.field_at-reading-requires
-field_at-reading-requires c = omega (arith, head_held c)
+field_at-reading-requires c =
+    omega (arith, head_held c (whole_head (goal.at.field_at-reading-requires c).Else-not-is_whole))
 
 pub field_at-n-requires : goal.field_at-n-requires
-field_at-n-requires c = omega (arith, head_held (goal.at.field_at-n-requires c).Else-not-is_good_head)
+field_at-n-requires c =
+    omega (arith, head_held (goal.at.field_at-n-requires c).Else-not-is_good_head (whole_head (goal.at.field_at-n-requires c).Else-not-is_whole))

@@ -1,6 +1,6 @@
 -- `lines::put_row` meets its contract. The loop's invariant: the lines of the first j entries are written. Assumes nothing.
 use mathlib.Core.Path.{◌≡◌}
-use Prim.Native.Nat.{ℕ, ◌+◌, ◌*◌, ◌≤◌, ◌<◌}
+use Prim.Native.Nat.{ℕ, ◌+◌, ◌*◌, ◌<◌}
 use native.Mathlib.Omega.{arith}
 use mathlib.Core.List.{List}
 use lib.ListN.{length}
@@ -11,22 +11,16 @@ use Rattle.buffer.specs.Pasted.{Room, Written}
 use Rattle.buffer.proofs.Growing.{Turn, turn}
 use Rattle.lines.proofs.Lines.{row-begun, row_grows, row_ends}
 use Rattle.lines.proofs.put_row.Goals as goal
-use Rattle.lines.proofs.put_row.Goals.{In-loop-j, Start}
+use Rattle.lines.proofs.put_row.Goals.{In-loop-j}
 
 -- A turn writes one line more of the row.
 entry-turn : (x : ℕ → ℕ → Float) (i n : ℕ) {at j next : ℕ} {out after : List ℕ} → Room (row_lines x i n) at out → j < n → Written (row_lines x i j) at out after next
     → Turn (entry_line (i + 1) (j + 1) (x i j)) (row_lines x i (j + 1)) at out next after
 entry-turn x i n room due so_far = turn (row_lines x i) (λ k. entry_line (i + 1) (k + 1) (x i k)) n (λ k h. row_grows x i k) room due so_far
 
-ends : (c : goal.Start) → c.args.i * c.args.n + c.args.n ≤ c.args.n * c.args.n
-ends c = row_ends c.args.i c.args.n c.requires.0
-
-ends_1 : (c : goal.In-loop-j) → c.args.i * c.args.n + c.args.n ≤ c.args.n * c.args.n
-ends_1 c = row_ends c.args.i c.args.n c.requires.0
-
 inside : (c : goal.In-loop-j)
     → c.args.i * c.args.n + c.loop-j.j < length c.args.answer.now
-inside c = omega (arith, ends_1 c)
+inside c = omega (arith, row_ends c.args.i c.args.n c.requires.0)
 
 pub loop-j-init : goal.loop-j-init
 loop-j-init c =
@@ -46,7 +40,7 @@ returns c =
     rw end at c.loop-j.invariant.1
 
 pub overflow_mul-first : goal.overflow_mul-first
-overflow_mul-first c = omega (arith, ends (goal.at.overflow_mul-first c).Start)
+overflow_mul-first c = omega (arith, row_ends c.args.i c.args.n c.requires.0)
 
 pub overflow_add-first : goal.overflow_add-first
 overflow_add-first c = omega (arith, inside c)

@@ -11,7 +11,6 @@ use Rattle.exact.proofs.Bools.{holds}
 use Rattle.definitions.specs.Questions.{pass, exponent_in_range}
 use Rattle.definitions.specs.Moving.{move_input}
 use Rattle.answers.proofs.Outcome.{passed, refused}
-use Rattle.shape.specs.Square.{Square}
 use Rattle.moving.proofs.Endings.{input_refused, exponent_refused, unit_refused, room_refused, moved_given_lem, its_square, movable, fits_area, its_unit, unit-fits}
 use mathlib.Core.Path.{ap}
 use mathlib.Core.Bool.{not}
@@ -64,14 +63,6 @@ unfolding exponent_in_range
 in_range_lem c is =
     not-false (exponent_in_range (c.args.e +ℤ c.args.k)) (rw is at (ap not c.if-not-unit.false))
 
-input_1 : (c : goal.Else-not-unit) → move_input c.args.reading c.args.n c.args.e c.args.sheet.now (length c.args.area.now) ≡ pass
-input_1 c =
-    passed (rw (to_z-of_z w64 c.args.e c.ranges.e) at c.move_input-asked.ensures) c.if-asked-ne0.false
-
-square : (c : goal.Else-not-unit) → Square c.args.n c.args.sheet.now
-square c =
-    its_square c.args.reading c.args.n c.args.e c.args.sheet.now c.args.k c.args.area.now (input_1 c)
-
 pub move_numbers-requires : goal.move_numbers-requires
 move_numbers-requires c =
     let passed = input (goal.at.move_numbers-requires c).Else-asked-ne0 in
@@ -97,7 +88,9 @@ returns c =
     done.value done.area_after (not-false c.move_numbers.result (ap not c.if-not-move_numbers.false)))
 
 pub rates_of-requires : goal.rates_of-requires
-rates_of-requires c = square c
+rates_of-requires c =
+    its_square c.args.reading c.args.n c.args.e c.args.sheet.now c.args.k c.args.area.now (input (goal.at.rates_of-requires c).Else-asked-ne0)
 
 pub weights_of-requires : goal.weights_of-requires
-weights_of-requires c = square (goal.at.weights_of-requires c).Else-not-unit
+weights_of-requires c =
+    its_square c.args.reading c.args.n c.args.e c.args.sheet.now c.args.k c.args.area.now (input (goal.at.weights_of-requires c).Else-asked-ne0)
