@@ -1,34 +1,52 @@
 -- The declared answers as document 01's: what was asked for, or a number, a row and a column.
-use Rattle.std.specs.Prelude.{ℕ, ℤ, Float}
-use Rattle.definitions.specs.File.{Head}
+use Rattle.std.specs.Prelude.{ℕ, Result, Ok, Err}
+use Rattle.definitions.specs.File as file
+use Rattle.definitions.specs.Questions.{Asked, pass, refuse}
 use Rattle.definitions.specs.Services.{Answer, given, refused}
-use Rattle.answers.specs.declared.Filled.{Filled}
-use Rattle.answers.specs.declared.Filled.TheVariants as filled
-use Rattle.answers.specs.declared.Entry.{Entry}
-use Rattle.answers.specs.declared.Entry.TheVariants as entry
-use Rattle.answers.specs.declared.Loaded.{Loaded}
-use Rattle.answers.specs.declared.Loaded.TheVariants as loaded
-use Rattle.answers.specs.declared.Moved.{Moved}
-use Rattle.answers.specs.declared.Moved.TheVariants as moved
-use Rattle.answers.specs.declared.Saved.{Saved}
-use Rattle.answers.specs.declared.Saved.TheVariants as saved
+use Rattle.answers.specs.declared.Question.{Question}
+use Rattle.answers.specs.declared.Question.TheVariants as question
+use Rattle.answers.specs.declared.Refusal.{Refusal}
+use Rattle.answers.specs.declared.Head.{Head}
 
-abbrev pub filled_given : Filled → Answer ℕ
-filled_given (filled.Allowed allowance) = given allowance
-filled_given (filled.Refused number row column) = refused number row column
+-- The number of a question (document 01, "The questions, in order"; document 02, U4, U6 and U7).
+abbrev pub number : Question → ℕ
+number question.Reading = 1
+number question.Stages = 2
+number question.Length = 3
+number question.Room = 4
+number question.StageAsked = 5
+number question.Finite = 6
+number question.Sign = 7
+number question.Size = 8
+number question.WayOut = 9
+number question.InRange = 10
+number question.WholeRecord = 11
+number question.Head = 12
+number question.RecordDue = 13
+number question.FileEnds = 14
+number question.Exponent = 15
+number question.RoomToMove = 16
+number question.MovedUnit = 17
+number question.PriceCount = 18
+number question.Price = 19
 
-abbrev pub entry_given : Entry → Answer Float
-entry_given (entry.Seconds value) = given value
-entry_given (entry.Refused number row column) = refused number row column
+-- The refusal of a question of the whole call.
+abbrev pub of_call : Question → Refusal
+of_call asked = record { question = asked; row = 0; column = 0 }
 
-abbrev pub head_given : Loaded → Answer Head
-head_given (loaded.Sheet reading n e) = given (record { reading = reading; n = n; e = e })
-head_given (loaded.Refused number row column) = refused number row column
+-- What questions come to: a pass, or a refusal.
+abbrev pub asked : {A : Type 0} → Result A Refusal → Asked
+asked (Ok value) = pass
+asked (Err refusal) = refuse (number refusal.question) refusal.row refusal.column
 
-abbrev pub saved_given : Saved → Answer ℕ
-saved_given (saved.File length) = given length
-saved_given (saved.Refused number row column) = refused number row column
+-- What a service answers.
+abbrev pub told : {A : Type 0} → Result A Refusal → Answer A
+told (Ok value) = given value
+told (Err refusal) = refused (number refusal.question) refusal.row refusal.column
 
-abbrev pub moved_given : Moved → Answer ℤ
-moved_given (moved.Sheet e) = given e
-moved_given (moved.Refused number row column) = refused number row column
+abbrev pub head_of : Head → file.Head
+head_of head = record { reading = head.reading; n = head.n; e = head.e }
+
+abbrev pub head_told : Result Head Refusal → Answer file.Head
+head_told (Ok head) = given (head_of head)
+head_told (Err refusal) = refused (number refusal.question) refusal.row refusal.column

@@ -32,10 +32,3 @@ pub nth-below : (first count : ℕ) (falling : Bool) → first < 32 → Reaches 
 unfolding nth
 nth-below first count true l h q m = omega arith
 nth-below first count false l h q m = let n = h.rises refl in omega arith
-
-pub reaches_small : {first count : ℕ} (falling : Bool) → first < 32 → Reaches first count falling → count ≤ 32
-reaches_small true l h = let m = h.falls refl in omega arith
-reaches_small false l h = let m = h.rises refl in omega arith
-
-pub reaches_less : {first count : ℕ} {falling : Bool} (q : ℕ) → q ≤ count → Reaches first count falling → Reaches first q falling
-reaches_less q l h = record { falls = λ e. let m = h.falls e in omega arith; rises = λ e. let m = h.rises e in omega arith }

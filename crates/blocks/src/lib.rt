@@ -3,7 +3,7 @@
 #![tactic(auto)]
 
 ghost use Rattle.std.specs.Prelude.{◌≡◌, ℕ, ◌+◌, ◌≤◌, ◌<◌, Float};
-ghost use Rattle.tables.specs.RowMajor.{IsTable, table, Holds};
+ghost use Rattle.tables.specs.RowMajor.{table, Holds};
 ghost use Rattle.tables.specs.Operators.{span};
 ghost use Rattle.tables.specs.Rows.{plus_multiple};
 ghost use Rattle.passes.specs.RowPass.{staged};
@@ -12,7 +12,7 @@ ghost use Rattle.blocks.specs.Blocks.{Carries, nth, Reaches};
 use tables::row;
 
 // Eight numbers of a row.
-#[derive(Drop)]
+#[derive(Clone, Copy)]
 struct Eight {
     a: f64,
     b: f64,
@@ -25,7 +25,7 @@ struct Eight {
 }
 
 fn load(i: usize, j: usize, t: &[f64; 1024]) -> Eight
-    requires { (i < 32) × (j + 8 ≤ 32) × IsTable t.now }
+    requires { (i < 32) × (j + 8 ≤ 32) }
     ensures { Carries result (table t.now i) j }
 {
     Eight {
@@ -42,7 +42,7 @@ fn load(i: usize, j: usize, t: &[f64; 1024]) -> Eight
 
 // With m times the numbers of row k in the same columns.
 fn add(x: Eight, m: f64, k: usize, j: usize, t: &[f64; 1024]) -> Eight
-    requires { (k < 32) × (j + 8 ≤ 32) × IsTable t.now }
+    requires { (k < 32) × (j + 8 ≤ 32) }
     ensures { (own : ℕ → Float) → Carries x own j → Carries result (plus_multiple m own (table t.now k)) j }
 {
     Eight {
@@ -58,7 +58,7 @@ fn add(x: Eight, m: f64, k: usize, j: usize, t: &[f64; 1024]) -> Eight
 }
 
 fn store(x: Eight, i: usize, j: usize, t: &mut [f64; 1024])
-    requires { (i < 32) × (j + 8 ≤ 32) × IsTable t.old }
+    requires { (i < 32) × (j + 8 ≤ 32) }
     ensures { (own : ℕ → Float) → Carries x own j → Holds t.new (span i j (j + 8) own (table t.old)) }
 {
     row::put(i, j, x.a, t);
@@ -72,11 +72,11 @@ fn store(x: Eight, i: usize, j: usize, t: &mut [f64; 1024])
 }
 
 // The row that comes q rows after `first`, rising or falling.
-fn nth(first: usize, falling: bool, q: usize) -> usize
-    requires { (q < 32) × (first < 32) × Reaches first q falling }
-    ensures { result ≡ nth first falling q }
+fn nth<const FALLING: bool>(first: usize, q: usize) -> usize
+    requires { (q < 32) × (first < 32) × Reaches first q FALLING }
+    ensures { result ≡ nth first FALLING q }
 {
-    if falling {
+    if FALLING {
         return first - q;
     }
     first + q
@@ -84,21 +84,20 @@ fn nth(first: usize, falling: bool, q: usize) -> usize
 
 // Adds `count` rows of b, from row `first` on, rising or falling, to eight numbers of row i from column
 // j on, with the multipliers of row i in t.
-pub fn add_rows(
+pub fn add_rows<const FALLING: bool>(
     i: usize,
     j: usize,
     first: usize,
     count: usize,
-    falling: bool,
     t: &[f64; 1024],
     b: &mut [f64; 1024],
 )
-    requires { (i < 32) × (j + 8 ≤ 32) × (first < 32) × Reaches first count falling × IsTable t.now × IsTable b.old }
-    ensures { let f = table b.old in Holds b.new (span i j (j + 8) (staged (nth first falling) (table t.now) f i count) f) }
+    requires { (i < 32) × (j + 8 ≤ 32) × (first < 32) × Reaches first count FALLING }
+    ensures { let f = table b.old in Holds b.new (span i j (j + 8) (staged (nth first FALLING) (table t.now) f i count) f) }
 {
     let mut x = load(i, j, b);
     for q in 0..count {
-        let k = nth(first, falling, q);
+        let k = nth::<FALLING>(first, q);
         let m = row::get(i, k, t);
         x = add(x, m, k, j, b);
     }

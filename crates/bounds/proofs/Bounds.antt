@@ -2,7 +2,7 @@
 use mathlib.Core.Path.{◌≡◌, refl}
 use mathlib.Core.Logic.{inl, inr}
 use Prim.Native.Nat.{ℕ, ◌+◌, ◌≤◌, ◌<◌}
-use native.Mathlib.Nat.{le_refl, le_trans, le_of_lt, le_of_eq, le_antisymm, lt_irrefl, lt_of_lt_of_le}
+use native.Mathlib.Nat.{le_refl, le_trans, le_of_lt, le_of_eq, lt_irrefl, lt_of_lt_of_le}
 use native.Mathlib.Omega.{arith}
 use mathlib.Core.Bool.{Bool, true, false, not, cond}
 use lib.Dec.{T, ltb, ltb→lt, nltb→le, eqb→eq, leb-suc-zero}
@@ -13,7 +13,7 @@ use Rattle.rounding.proofs.Value.{by_parts}
 use Rattle.rounding.proofs.Laws.{zero_is_good, units-zero, one_is_good, units-one, is_zero_lem}
 use Rattle.rounding.proofs.Order.{lt-units}
 use Rattle.bounds.specs.Bounds.{Bound, Covers, Covering, Lowered, Least}
-use Rattle.exact.proofs.Cases.{by_equal, by_order}
+use Rattle.exact.proofs.Cases.{by_equal}
 
 pub bound-one : Bound 1·0
 bound-one = record { good = one_is_good; small = le_of_eq units-one }
@@ -94,9 +94,6 @@ lowered_is {lo} {z} {w} {r} (fin false n i) f b e d k = pick (is_zero x) (λ t. 
     pick false h e' = above (lt 0·0 x) (rw e' at d)
 
 -- ---- a loop along the row from `from`: the numbers before j are bounded
-pub least_begins : {lo : Float} {f : ℕ → Float} {from : ℕ} → Bound lo → Least lo f from from lo
-least_begins {lo} b = record { less = le_refl (units lo); covering = record { bound = b; covers = λ j l m. absurd (lt_irrefl j (lt_of_lt_of_le m l)) } }
-
 -- One number more.
 pub covers_more : (lo : Float) (f : ℕ → Float) (from to : ℕ) → ((j : ℕ) → from ≤ j → j < to → Covers lo (f j)) → Covers lo (f to) → (j : ℕ) → from ≤ j → j ≤ to → Covers lo (f j)
 covers_more lo f from to h k j l m = by_equal j to (λ e. rw e k) (λ n. h j l (omega arith))
@@ -109,19 +106,5 @@ module _ {start lo : Float} {f : ℕ → Float} {from j : ℕ} (h : Least start 
         covering = record {
           bound = k.bound;
           covers = λ i l m. covers_more r f from j (covering_less k.bound k.less h.covering).covers (rw e at k.covers) i l (omega arith);
-        };
-      }
-
-  pub least_ends : {to : ℕ} → j ≤ to → to ≤ j → Least start f from to lo
-  least_ends l m = rw (le_antisymm l m) at h
-
-  -- The rest of the row after j.
-  pub least_joins : {to : ℕ} {r : Float} → Least lo f j to r → Least start f from to r
-  least_joins {to} {r} k =
-      record {
-        less = le_trans k.less h.less;
-        covering = record {
-          bound = k.covering.bound;
-          covers = λ i l m. by_order j i (λ n. k.covering.covers i n m) (λ n. covers_less lo r (f i) k.less (h.covering.covers i l n));
         };
       }

@@ -1,12 +1,12 @@
 -- Four bounds side by side: whatever is at most all four bounds the numbers that they were made lower for.
 use mathlib.Core.Path.{◌≡◌}
 use Prim.Native.Nat.{ℕ, ◌+◌, ◌≤◌, ◌<◌}
-use native.Mathlib.Nat.{le_refl, le_trans}
+use native.Mathlib.Nat.{le_trans}
 use native.Mathlib.Omega.{arith}
 use mathlib.Core.Bool.{cond}
 use lib.Ieee.{Float, lt}
 use Rattle.definitions.specs.Numbers.{units}
-use Rattle.bounds.specs.Bounds.{Bound, Covers, Least}
+use Rattle.bounds.specs.Bounds.{Covers, Least}
 use Rattle.bounds.specs.Fours.{FourBound, LoweredFour}
 use Rattle.bounds.proofs.Bounds.{smaller_is, smaller_bound, covers_less, covers_more}
 
@@ -21,14 +21,6 @@ pub record FourLeast (start : Float) (f : ℕ → Float) (from to : ℕ) (a b c 
   pub bounds : FourBound a b c d
   pub less : units a ≤ units start
   pub covers : (lo : Float) → UnderFour lo a b c d → (j : ℕ) → from ≤ j → j < to → Covers lo (f j)
-
-pub four_begins : {start : Float} {f : ℕ → Float} {from to : ℕ} → to ≤ from → Bound start → FourLeast start f from to start start start start
-four_begins {start} e b =
-    record {
-      bounds = record { first = b; second = b; third = b; fourth = b };
-      less = le_refl (units start);
-      covers = λ lo u j l m. let z : ⊥ = omega arith in absurd z;
-    }
 
 module _ {start : Float} {f : ℕ → Float} {from to : ℕ} {a b c d : Float} (h : FourLeast start f from to a b c d) where
   pub four_turns : {a' b' c' d' : Float} {next : ℕ} → next ≡ to + 4 → LoweredFour a b c d f to a' b' c' d' → FourLeast start f from next a' b' c' d'

@@ -6,14 +6,14 @@
 ghost use Rattle.std.specs.Prelude.{◌≡◌, cond, ◌+◌, ◌*◌, ◌≤◌, ◌<◌};
 ghost use Rattle.std.specs.Float.Ieee.{lt};
 ghost use Rattle.definitions.specs.Numbers.{0·0, 1·0, is_zero};
-ghost use Rattle.tables.specs.RowMajor.{IsTable, table};
+ghost use Rattle.tables.specs.RowMajor.{table};
 ghost use Rattle.bounds.specs.Bounds.{Bound, Lowered, Least};
 ghost use Rattle.bounds.specs.Fours.{FourBound, LoweredFour};
 
 use tables::row;
 
 // Four bounds, of every fourth number each.
-#[derive(Drop)]
+#[derive(Clone, Copy)]
 struct Four {
     a: f64,
     b: f64,
@@ -59,7 +59,7 @@ fn lower(lo: f64, x: f64) -> f64
 }
 
 fn lower_four(lo: Four, k: usize, j: usize, a: &[f64; 1024]) -> Four
-    requires { (k < 32) × (j + 4 ≤ 32) × IsTable a.now × FourBound lo.a lo.b lo.c lo.d }
+    requires { (k < 32) × (j + 4 ≤ 32) × FourBound lo.a lo.b lo.c lo.d }
     ensures { LoweredFour lo.a lo.b lo.c lo.d (table a.now k) j result.a result.b result.c result.d }
 {
     Four {
@@ -72,7 +72,7 @@ fn lower_four(lo: Four, k: usize, j: usize, a: &[f64; 1024]) -> Four
 
 // The bound for four times `count` numbers of row k.
 fn least_of_fours(lo: f64, k: usize, from: usize, count: usize, a: &[f64; 1024]) -> f64
-    requires { (k < 32) × (from + 4 * count ≤ 32) × IsTable a.now × Bound lo }
+    requires { (k < 32) × (from + 4 * count ≤ 32) × Bound lo }
     ensures { Least lo (table a.now k) from (from + 4 * count) result }
 {
     let mut four = Four {
@@ -89,7 +89,7 @@ fn least_of_fours(lo: f64, k: usize, from: usize, count: usize, a: &[f64; 1024])
 
 // The bound for the numbers of row k from `from` up to `to`, one by one.
 fn least_of_few(lo: f64, k: usize, from: usize, to: usize, a: &[f64; 1024]) -> f64
-    requires { (k < 32) × (from ≤ to) × (to ≤ 32) × IsTable a.now × Bound lo }
+    requires { (k < 32) × (from ≤ to) × (to ≤ 32) × Bound lo }
     ensures { Least lo (table a.now k) from to result }
 {
     let mut least = lo;
@@ -102,7 +102,7 @@ fn least_of_few(lo: f64, k: usize, from: usize, to: usize, a: &[f64; 1024]) -> f
 
 // The same, four by four where there are enough.
 pub fn least(lo: f64, k: usize, from: usize, to: usize, a: &[f64; 1024]) -> f64
-    requires { (k < 32) × (from ≤ to) × (to ≤ 32) × IsTable a.now × Bound lo }
+    requires { (k < 32) × (from ≤ to) × (to ≤ 32) × Bound lo }
     ensures { Least lo (table a.now k) from to result }
 {
     if to - from < 8 {

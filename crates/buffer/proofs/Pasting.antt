@@ -38,6 +38,11 @@ pub pasted-at-start : (text bytes : List ℕ) → pasted text 0 bytes ≡ text +
 unfolding pasted
 pasted-at-start text bytes = rw zero-add
 
+-- A text copied into a part of the buffer that is as long as the text.
+pub pasted_part : (text at_part : List ℕ) (at size : ℕ) (bytes : List ℕ) → size ≡ length text → at_part ≡ text → take at bytes ++ (at_part ++ drop size (drop at bytes)) ≡ pasted text at bytes
+unfolding pasted
+pasted_part text at_part at size bytes e c = rw (e, c, drop-drop, append_assoc)
+
 -- Two texts in a row, the first written first, or the second.
 row : (a b : List ℕ) (at : ℕ) (bytes : List ℕ) → take at bytes ++ a ++ b ++ drop (at + length a + length b) bytes ≡ pasted (a ++ b) at bytes
 unfolding pasted

@@ -18,11 +18,7 @@ pub fn put_bytes(bytes: &[u8], at: usize, out: &mut [u8]) -> usize
     requires { Room bytes.now at out.old }
     ensures { Written bytes.now at out.old out.new result }
 {
-    let mut k = 0;
-    let mut next = at;
-    while k < bytes.len() {
-        next = put_byte(bytes[k], next, out);
-        k += 1;
-    }
+    let next = at + bytes.len();
+    out[at..next].copy_from_slice(bytes);
     next
 }

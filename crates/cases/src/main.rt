@@ -5,7 +5,8 @@
 
 ghost use Rattle.std.specs.Prelude.{◌≤◌, length};
 
-use answers::{Loaded, Saved};
+use answers::{Head, Refusal};
+use rounding::Word;
 use std::io;
 use std::io::Read;
 
@@ -29,12 +30,8 @@ fn write_count(rt: &impl Print, count: usize) -> io::Result<()> {
     print!(rt; " {count}")
 }
 
-// In decimal, with a minus sign where it is negative.
 fn write_signed(rt: &impl Print, number: i64) -> io::Result<()> {
-    let mut field = [0u8; 32];
-    let end = digits::put_integer(number, b' ', 0, &mut field);
-    write_text(rt, b" ")?;
-    write_text(rt, &field[..end - 1])
+    print!(rt; " {number}")
 }
 
 fn write_word(rt: &impl Print, word: u64) -> io::Result<()> {
@@ -49,16 +46,9 @@ fn write_refusal(rt: &impl Print, number: usize, row: usize, column: usize) -> i
 }
 
 // Each number by its bits; every NaN has the same ones.
-fn write_numbers(rt: &impl Print, area: &[f64]) -> io::Result<()> {
+fn write_area<W: Word>(rt: &impl Print, area: &[W]) -> io::Result<()> {
     for number in area {
-        write_word(rt, rounding::to_word(*number))?;
-    }
-    write_text(rt, b"\n")
-}
-
-fn write_words(rt: &impl Print, area: &[u64]) -> io::Result<()> {
-    for word in area {
-        write_word(rt, *word)?;
+        write_word(rt, number.to_word())?;
     }
     write_text(rt, b"\n")
 }
@@ -99,32 +89,14 @@ fn signed(case: &[u8], k: usize) -> i64
     -1 - ((u64::MAX - word) as i64)
 }
 
-fn least(a: usize, b: usize) -> usize
-    ensures { (result ≤ a) × (result ≤ b) }
-{
-    if a < b { a } else { b }
-}
-
 // The numbers behind the first `from` words of a case; returns how many there are.
-fn numbers(case: &[u8], from: usize, sheet: &mut [f64]) -> usize
+fn numbers<W: Word>(case: &[u8], from: usize, sheet: &mut [W]) -> usize
     requires { (from ≤ 5) × (length sheet.old ≤ 1100) }
     ensures { result ≤ length sheet.old }
 {
-    let given = least(sheet.len(), case.len() / 8 - least(case.len() / 8, from));
-    for k in 0..given {
-        sheet[k] = rounding::from_word(word(case, from + k));
-    }
-    given
-}
-
-// The same as words.
-fn words(case: &[u8], from: usize, sheet: &mut [u64]) -> usize
-    requires { (from ≤ 5) × (length sheet.old ≤ 1100) }
-    ensures { result ≤ length sheet.old }
-{
-    let given = least(sheet.len(), case.len() / 8 - least(case.len() / 8, from));
-    for k in 0..given {
-        sheet[k] = word(case, from + k);
+    let given = sheet.len().min((case.len() / 8).saturating_sub(from));
+    for (k, number) in sheet[..given].iter_mut().enumerate() {
+        *number = W::from_word(word(case, from + k));
     }
     given
 }
@@ -142,7 +114,7 @@ fn write_filled(
     if number == 0 {
         write_count(rt, allowance)?;
     }
-    write_numbers(rt, area)
+    write_area(rt, area)
 }
 
 // t: reading, n, e, the length of the answer area, and the sheet's numbers.
@@ -174,7 +146,7 @@ fn run_table(rt: &impl Print, case: &[u8]) -> io::Result<()> {
     let mut sheet = [0.0; PLACES];
     let given = numbers(case, 4, &mut sheet);
     let mut area = [0.5; PLACES];
-    let room = least(count(case, 3), PLACES);
+    let room = count(case, 3).min(PLACES);
     try_table(
         rt,
         count(case, 0),
@@ -216,7 +188,7 @@ fn run_column(rt: &impl Print, case: &[u8]) -> io::Result<()> {
     let mut sheet = [0.0; PLACES];
     let given = numbers(case, 5, &mut sheet);
     let mut area = [0.5; PLACES];
-    let room = least(count(case, 3), PLACES);
+    let room = count(case, 3).min(PLACES);
     try_column(
         rt,
         count(case, 0),
@@ -238,7 +210,7 @@ fn try_prices(
     priced: usize,
     area: &mut [f64],
 ) -> io::Result<()> {
-    let from = least(priced, all.len());
+    let from = priced.min(all.len());
     let mut allowance = 0;
     let mut row = 0;
     let mut column = 0;
@@ -260,7 +232,7 @@ fn run_prices(rt: &impl Print, case: &[u8]) -> io::Result<()> {
     let mut all = [0.0; PLACES];
     let given = numbers(case, 5, &mut all);
     let mut area = [0.5; PLACES];
-    let room = least(count(case, 3), PLACES);
+    let room = count(case, 3).min(PLACES);
     try_prices(
         rt,
         count(case, 0),
@@ -335,14 +307,13 @@ fn run_entries(rt: &impl Print, case: &[u8]) -> io::Result<()> {
     Ok(())
 }
 
-// f: the length of the area, and a file, which both readers read.
-fn write_head(rt: &impl Print, told: Loaded) -> io::Result<()> {
+fn write_head(rt: &impl Print, head: Result<Head, Refusal>) -> io::Result<()> {
     let mut reading = 0;
     let mut n = 0;
     let mut e = 0;
     let mut row = 0;
     let mut column = 0;
-    let number = out_places::hand_head(told, &mut reading, &mut n, &mut e, &mut row, &mut column);
+    let number = out_places::hand_head(head, &mut reading, &mut n, &mut e, &mut row, &mut column);
     write_refusal(rt, number, row, column)?;
     if number == 0 {
         write_count(rt, reading)?;
@@ -352,31 +323,26 @@ fn write_head(rt: &impl Print, told: Loaded) -> io::Result<()> {
     Ok(())
 }
 
-fn read_words(rt: &impl Print, bytes: &[u8], area: &mut [u64]) -> io::Result<()> {
-    write_head(rt, file::read_words(bytes, area))?;
-    write_words(rt, area)
+fn read_file<W: Word>(rt: &impl Print, bytes: &[u8], area: &mut [W]) -> io::Result<()> {
+    write_head(rt, file::read(bytes, area))?;
+    write_area(rt, area)
 }
 
-fn read_numbers(rt: &impl Print, bytes: &[u8], area: &mut [f64]) -> io::Result<()> {
-    write_head(rt, file::read_numbers(bytes, area))?;
-    write_numbers(rt, area)
-}
-
+// f: the length of the area, and a file, which is read as words and as numbers.
 fn run_file(rt: &impl Print, case: &[u8]) -> io::Result<()> {
-    let room = least(count(case, 0), 40);
-    let from = least(9, case.len());
+    let room = count(case, 0).min(40);
+    let from = case.len().min(9);
     let mut words = [101u64; 40];
-    read_words(rt, &case[from..], &mut words[..room])?;
+    read_file(rt, &case[from..], &mut words[..room])?;
     let mut numbers = [0.5; 40];
-    read_numbers(rt, &case[from..], &mut numbers[..room])
+    read_file(rt, &case[from..], &mut numbers[..room])
 }
 
-// s: reading, n, e, the number of bytes lent, and the sheet's words. What is saved is loaded again.
-fn write_saved(rt: &impl Print, told: Saved) -> io::Result<usize> {
+fn write_saved(rt: &impl Print, saved: Result<usize, Refusal>) -> io::Result<usize> {
     let mut length = 0;
     let mut row = 0;
     let mut column = 0;
-    let number = out_places::hand_length(told, &mut length, &mut row, &mut column);
+    let number = out_places::hand(saved, &mut length, &mut row, &mut column);
     write_refusal(rt, number, row, column)?;
     if number == 0 {
         write_count(rt, length)?;
@@ -384,70 +350,42 @@ fn write_saved(rt: &impl Print, told: Saved) -> io::Result<usize> {
     Ok(length)
 }
 
-fn save_words(
+// What is saved is loaded again.
+fn save_sheet<W: Word>(
     rt: &impl Print,
     reading: usize,
     n: usize,
     e: i64,
-    sheet: &[u64],
+    sheet: &[W],
     area: &mut [u8],
+    again: &mut [W],
 ) -> io::Result<()> {
-    let length = write_saved(rt, file::save_words(reading, n, e, sheet, area))?;
+    let length = write_saved(rt, file::save(reading, n, e, sheet, area))?;
     write_bytes(rt, area)?;
-    let mut again = [101u64; PLACES];
-    read_words(
-        rt,
-        &area[..least(length, area.len())],
-        &mut again[..least(sheet.len(), PLACES)],
-    )
+    let room = sheet.len().min(again.len());
+    read_file(rt, &area[..length.min(area.len())], &mut again[..room])
 }
 
-fn run_save(rt: &impl Print, case: &[u8]) -> io::Result<()> {
-    let mut sheet = [0u64; PLACES];
-    let given = words(case, 4, &mut sheet);
+// s and n: reading, n, e, the number of bytes lent, and the sheet's numbers, as words or as f64.
+fn run_save<W: Word>(
+    rt: &impl Print,
+    case: &[u8],
+    sheet: &mut [W],
+    again: &mut [W],
+) -> io::Result<()>
+    requires { length sheet.old ≤ 1100 }
+{
+    let given = numbers(case, 4, sheet);
     let mut area = [7u8; BYTES];
-    let room = least(count(case, 3), BYTES);
-    save_words(
+    let room = count(case, 3).min(BYTES);
+    save_sheet(
         rt,
         count(case, 0),
         count(case, 1),
         signed(case, 2),
         &sheet[..given],
         &mut area[..room],
-    )
-}
-
-// n: the same with the sheet's numbers.
-fn save_numbers(
-    rt: &impl Print,
-    reading: usize,
-    n: usize,
-    e: i64,
-    sheet: &[f64],
-    area: &mut [u8],
-) -> io::Result<()> {
-    let length = write_saved(rt, file::save_numbers(reading, n, e, sheet, area))?;
-    write_bytes(rt, area)?;
-    let mut again = [0.5; PLACES];
-    read_numbers(
-        rt,
-        &area[..least(length, area.len())],
-        &mut again[..least(sheet.len(), PLACES)],
-    )
-}
-
-fn run_save_numbers(rt: &impl Print, case: &[u8]) -> io::Result<()> {
-    let mut sheet = [0.0; PLACES];
-    let given = numbers(case, 4, &mut sheet);
-    let mut area = [7u8; BYTES];
-    let room = least(count(case, 3), BYTES);
-    save_numbers(
-        rt,
-        count(case, 0),
-        count(case, 1),
-        signed(case, 2),
-        &sheet[..given],
-        &mut area[..room],
+        again,
     )
 }
 
@@ -479,14 +417,14 @@ fn try_move(
     if number == 0 {
         write_signed(rt, unit)?;
     }
-    write_numbers(rt, area)
+    write_area(rt, area)
 }
 
 fn run_move(rt: &impl Print, case: &[u8]) -> io::Result<()> {
     let mut sheet = [0.0; PLACES];
     let given = numbers(case, 5, &mut sheet);
     let mut area = [0.5; PLACES];
-    let room = least(count(case, 3), PLACES);
+    let room = count(case, 3).min(PLACES);
     try_move(
         rt,
         count(case, 0),
@@ -500,38 +438,37 @@ fn run_move(rt: &impl Print, case: &[u8]) -> io::Result<()> {
 
 // d: the input of dwell.
 fn run_dwell(rt: &impl Print, case: &[u8]) -> io::Result<()> {
-    let from = least(1, case.len());
+    let from = case.len().min(1);
     let mut text = [0u8; ROOM];
     let length = report::dwell(&case[from..], &mut text);
     write_text(rt, &text[..length])
 }
 
 fn run_case(rt: &impl Print, case: &[u8]) -> io::Result<()> {
-    if case.len() == 0 {
+    let Some(call) = case.first() else {
         return Ok(());
-    }
-    let call = case[0];
-    match call {
+    };
+    match *call {
         b't' => run_table(rt, case),
         b'c' => run_column(rt, case),
         b'p' => run_prices(rt, case),
         b'e' => run_entry(rt, case),
         b'a' => run_entries(rt, case),
         b'f' => run_file(rt, case),
-        b's' => run_save(rt, case),
-        b'n' => run_save_numbers(rt, case),
+        b's' => run_save(rt, case, &mut [0u64; PLACES], &mut [101u64; PLACES]),
+        b'n' => run_save(rt, case, &mut [0.0; PLACES], &mut [0.5; PLACES]),
         b'm' => run_move(rt, case),
         _ => run_dwell(rt, case),
     }
 }
 
-// The length before the next case; where the input ends, or is no length of a case, one that is too long.
-fn next_length(input: &mut impl Read) -> io::Result<usize> {
+// The length before the next case; none where the input ends.
+fn next_length(input: &mut impl Read) -> io::Result<Option<usize>> {
     let mut bytes = [0u8; 4];
     if full_reads::read_full(input, &mut bytes)? < 4 {
-        return Ok(LONGEST + 1);
+        return Ok(None);
     }
-    Ok(records::field_at(&bytes, 0, 4))
+    Ok(Some(records::field_at(&bytes, 0, 4)))
 }
 
 // Reads a case into the whole of `case` and runs it; whether it came whole.
@@ -543,7 +480,9 @@ fn read_case(rt: &impl Print, input: &mut impl Read, case: &mut [u8]) -> io::Res
 
 // One case, and whether there was one.
 fn next_case(rt: &impl Print, input: &mut impl Read) -> io::Result<bool> {
-    let length = next_length(input)?;
+    let Some(length) = next_length(input)? else {
+        return Ok(false);
+    };
     if length > LONGEST {
         return Ok(false);
     }

@@ -1,34 +1,30 @@
 -- The stages of one column: a stage over its rows, and what it does to document 01's column.
 use mathlib.Core.Path.{◌≡◌, refl, sym, ap, ◌∙◌}
 use Prim.Native.Nat.{ℕ, suc, ◌+◌, ◌-◌, ◌≤◌, ◌<◌, zero-le}
-use native.Mathlib.Nat.{le_refl, le_antisymm, sub-zero}
+use native.Mathlib.Nat.{le_refl, sub-zero}
 use native.Mathlib.Numerals.{add-one}
 use native.Mathlib.Omega.{arith}
 use mathlib.Core.Bool.{Bool, true, ◌&&◌}
 use mathlib.Core.List.{List}
 use lib.Ieee.{Float}
-use borrow.Author.Tests.{le-leb, ne_eqb}
+use borrow.Author.Tests.{le-leb}
 use Rattle.exact.proofs.Cases.{by_equal}
 use Rattle.definitions.specs.Numbers.{◌⊕◌, ◌⊗◌, 1·0, all}
 use Rattle.definitions.specs.LeavingRates.{System, b↑}
 use Rattle.steps.proofs.All.{all_same}
 use Rattle.steps.proofs.AddProduct.{step_same}
-use Rattle.steps.proofs.Gathering.{Gathered, gathered_begins, gathered_turns, gathered_ends, gathered_all}
+use Rattle.steps.proofs.Gathering.{Gathered, gathered_begins, gathered_turns}
 use Rattle.steps.proofs.LeavingRatesSteps.{column_waits, column_step, upward_start, upward_step, solved_is}
 use Rattle.tables.specs.Operators.{replace, between}
 use Rattle.tables.specs.Vectors.{vector, IsVector, VectorHolds, ZeroVector}
 use Rattle.tables.proofs.Operators.{between_in, between-low, between_past}
 use Rattle.passes.specs.Multipliers.{Multipliers}
-use Rattle.column.specs.ColumnSteps.{large_product, StageGives, UnitColumn, DownAt, UpAt, large_down, large_up, DownwardGives, UpwardGives}
+use Rattle.column.specs.ColumnSteps.{large_product, StageGives, UnitColumn, DownAt, UpAt, large_down, large_up}
 
 -- ---- column j of the identity, with its 1 or past the last stage
 pub unit-put : {r j : ℕ} {b xs : List Float} → ZeroVector b → VectorHolds xs (replace j 1·0 (vector b)) → UnitColumn r j xs
 unfolding replace
 unit-put {j = j} z h = record { long = h.long; is = λ i l. ap (λ (w : ℕ → Float). w i) (h.is ∙ ap (replace j 1·0) z.is) }
-
-pub unit-none : {r j : ℕ} {b : List Float} → ZeroVector b → r ≤ j → UnitColumn r j b
-unit-none {j = j} z l =
-    record { long = z.long; is = λ i m. ap (λ (w : ℕ → Float). w i) z.is ∙ rw (ne_eqb i j (λ e. omega arith)) }
 
 -- ---- document 01's column
 module _ (r : ℕ) (at : ℕ → System) (j : ℕ) where
@@ -112,14 +108,6 @@ module _ {r j : ℕ} {g : ℕ → ℕ → Float} {v₀ : ℕ → Float} {k : ℕ
         is = λ at m d. rw (add-one k) (down_turn r at j m (vector xs) (vector ys) k l (h.is at m d) h.from u.holds.is);
       }
 
-  pub downs_end : k ≤ r → r ≤ k → DownwardGives r j g v₀ ok xs
-  downs_end l m =
-      record {
-        long = h.long;
-        large = λ at a d. gathered_ends (h.large at a d) l m;
-        is = λ at a d. rw (le_antisymm l m) at (h.is at a d);
-      }
-
 pub record Ups (r : ℕ) (g : ℕ → ℕ → Float) (v₀ : ℕ → Float) (q : ℕ) (ok : Bool) (xs : List Float) : Type 0 where
   pub long : IsVector xs
   pub large : (at : ℕ → System) (j : ℕ) → Multipliers r at g → UpAt r at j 0 v₀ → Gathered (large_up r at j) 0 q ok
@@ -135,12 +123,4 @@ module _ {r : ℕ} {g : ℕ → ℕ → Float} {v₀ : ℕ → Float} {q : ℕ} 
         long = w.holds.long;
         large = λ at j m d. gathered_turns (h.large at j m d) (rw (sub-zero k) at w.large ∙ up_test r at j m (vector xs) (vector ys) q k e (h.is at j m d));
         is = λ at j m d. rw (add-one q) (up_turn r at j m (vector xs) (vector ys) q k e (h.is at j m d) w.holds.is);
-      }
-
-  pub ups_end : q ≤ r → r ≤ q → UpwardGives r g v₀ ok xs
-  ups_end l m =
-      record {
-        long = h.long;
-        large = λ at j a d. gathered_all (h.large at j a d) l m;
-        is = λ at j a d. rw (le_antisymm l m) at (h.is at j a d);
       }

@@ -7,8 +7,8 @@
 #![tactic(auto)]
 
 ghost use Rattle.std.specs.Prelude.{◌≡◌, ◌≤◌, ◌<◌};
-ghost use Rattle.tables.specs.RowMajor.{IsTable, table};
-ghost use Rattle.tables.specs.Vectors.{IsVector, vector, ZeroVector};
+ghost use Rattle.tables.specs.RowMajor.{table};
+ghost use Rattle.tables.specs.Vectors.{vector, ZeroVector};
 ghost use Rattle.column.specs.ColumnSteps.{large_product, StageGives, UnitColumn, DownwardGives, UpwardGives, QuotientsGive, ColumnSolved};
 
 use tables::{row, vector};
@@ -22,7 +22,7 @@ fn large_product(m: f64, y: f64) -> bool
 
 // Stage k on the rows from `from` up to `to`: b_i becomes b_i + m·b_k, with m at place (i, k) of t.
 fn add_multiples(k: usize, from: usize, to: usize, t: &[f64; 1024], b: &mut [f64; 32]) -> bool
-    requires { (k < 32) × (from ≤ to) × (to ≤ 32) × IsTable t.now × IsVector b.old }
+    requires { (k < 32) × (from ≤ to) × (to ≤ 32) }
     ensures { StageGives k from to (table t.now) (vector b.old) result b.new }
 {
     let y = vector::get(k, b);
@@ -49,7 +49,7 @@ fn identity(r: usize, j: usize, b: &mut [f64; 32])
 
 // The downward stages of column j, which begin with stage j: before it the column has nothing to add.
 fn downward_steps(r: usize, j: usize, t: &[f64; 1024], b: &mut [f64; 32]) -> bool
-    requires { (j ≤ r) × (r ≤ 32) × IsTable t.now × IsVector b.old }
+    requires { (j ≤ r) × (r ≤ 32) }
     ensures { DownwardGives r j (table t.now) (vector b.old) result b.new }
 {
     let mut ok = true;
@@ -62,7 +62,7 @@ fn downward_steps(r: usize, j: usize, t: &[f64; 1024], b: &mut [f64; 32]) -> boo
 
 // The upward stages, from the last row to the first.
 fn upward_steps(r: usize, t: &[f64; 1024], b: &mut [f64; 32]) -> bool
-    requires { (r ≤ 32) × IsTable t.now × IsVector b.old }
+    requires { r ≤ 32 }
     ensures { UpwardGives r (table t.now) (vector b.old) result b.new }
 {
     let mut ok = true;
@@ -76,7 +76,7 @@ fn upward_steps(r: usize, t: &[f64; 1024], b: &mut [f64; 32]) -> bool
 
 // The last division, by the pivots.
 fn quotients(r: usize, t: &[f64; 1024], b: &mut [f64; 32]) -> bool
-    requires { (r ≤ 32) × IsTable t.now × IsVector b.old }
+    requires { r ≤ 32 }
     ensures { QuotientsGive r (table t.now) (vector b.old) result b.new }
 {
     let mut ok = true;
@@ -95,7 +95,7 @@ fn quotients(r: usize, t: &[f64; 1024], b: &mut [f64; 32]) -> bool
 // afterwards it is left open where a step is not in range, and so is t. At j = r the steps are taken with a
 // column of zeros (document 02, U3).
 pub fn solve(r: usize, j: usize, t: &mut [f64; 1024], b: &mut [f64; 32]) -> bool
-    requires { (j ≤ r) × (r ≤ 32) × IsTable t.old × ZeroVector b.old }
+    requires { (j ≤ r) × (r ≤ 32) × ZeroVector b.old }
     ensures { ColumnSolved r j (table t.old) result b.new }
 {
     let none = [0.0; 0];

@@ -8,53 +8,52 @@ ghost use Rattle.definitions.specs.Sheet.{takes_part};
 ghost use Rattle.definitions.specs.Questions.{pass};
 ghost use Rattle.definitions.specs.Column.{column_input};
 ghost use Rattle.tables.specs.Vectors.{ZeroVector};
-ghost use Rattle.shape.specs.Square.{Square};
 ghost use Rattle.column_planner.specs.Promises.{ColumnStepped, ColumnDone};
 
-use answers::Filled;
+use answers::{Question, Refusal};
+use shape::sheets::Sheet;
 
 // Column j of a sheet without idle stages: its sizes and leaving rates go through the steps as they are.
-fn leaving_rates(n: usize, j: usize, sheet: &[f64], b: &mut [f64; 32]) -> bool
-    requires { Square n sheet.now × (all (takes_part 1 n sheet.now) 0 n ≡ true) × (j < n) × ZeroVector b.old }
-    ensures { ColumnStepped n sheet.now j result b.new }
+fn leaving_rates(j: usize, sheet: Sheet<'_>, b: &mut [f64; 32]) -> bool
+    requires { (all (takes_part 1 sheet.n sheet.numbers.now) 0 sheet.n ≡ true) × (j < sheet.n) × ZeroVector b.old }
+    ensures { ColumnStepped sheet.entry.n sheet.entry.numbers.now j result b.new }
 {
     let mut t = [0.0; 1024];
-    loading::sizes(n, sheet, &mut t);
-    loading::rates(n, sheet, &mut t);
-    column::solve(n, j, &mut t, b)
+    loading::sizes(sheet, &mut t);
+    loading::rates(sheet, &mut t);
+    column::solve(sheet.n, j, &mut t, b)
 }
 
 // Column j of a sheet with idle stages: the others go through the steps in compact order, with a column of zeros
 // where stage j is idle. The zeros of x stay in the idle rows, or in every row.
-fn live_stages(n: usize, j: usize, sheet: &[f64], x: &mut [f64; 32]) -> bool
-    requires { Square n sheet.now × (j < n) × ZeroVector x.old }
-    ensures { ColumnStepped n sheet.now j result x.new }
+fn live_stages(j: usize, sheet: Sheet<'_>, x: &mut [f64; 32]) -> bool
+    requires { (j < sheet.n) × ZeroVector x.old }
+    ensures { ColumnStepped sheet.entry.n sheet.entry.numbers.now j result x.new }
 {
-    let mut stages = [0; 32];
     let mut s = [0.0; 1024];
     let mut b = [0.0; 32];
-    let r = live::pack(n, sheet, &mut stages, &mut s);
-    let q = compact::find(r, &stages, j);
-    if !column::solve(r, q, &mut s, &mut b) {
+    let stages = live::pack(sheet, &mut s);
+    let place = stages.find(j);
+    if !column::solve(stages.count, place.unwrap_or(stages.count), &mut s, &mut b) {
         return false;
     }
-    if q == r {
+    if place.is_none() {
         return true;
     }
-    compact::unpack_vector(r, &stages, &b, x);
+    stages.unpack_vector(&b, x);
     true
 }
 
 // Column j of a sheet's table, in b; true if its steps are in range. b holds zeros before; afterwards it is left
 // open where a step is not in range.
-fn steps(n: usize, j: usize, sheet: &[f64], b: &mut [f64; 32]) -> bool
-    requires { Square n sheet.now × (j < n) × ZeroVector b.old }
-    ensures { ColumnStepped n sheet.now j result b.new }
+fn steps(j: usize, sheet: Sheet<'_>, b: &mut [f64; 32]) -> bool
+    requires { (j < sheet.n) × ZeroVector b.old }
+    ensures { ColumnStepped sheet.entry.n sheet.entry.numbers.now j result b.new }
 {
-    if idle::some_idle(n, sheet) {
-        return live_stages(n, j, sheet, b);
+    if idle::some_idle(sheet) {
+        return live_stages(j, sheet, b);
     }
-    leaving_rates(n, j, sheet, b)
+    leaving_rates(j, sheet, b)
 }
 
 // The column of a sheet that passed questions 1 to 9. Nothing is written before question 10 passes too.
@@ -65,22 +64,17 @@ fn column_of_sheet(
     sheet: &[f64],
     stage: usize,
     answer: &mut [f64],
-) -> Filled
+) -> Result<usize, Refusal>
     requires { column_input reading n e sheet.now (length answer.old) stage ≡ pass }
     ensures { ColumnDone reading n e sheet.now stage answer.old answer.new result }
 {
+    let sheet = Sheet { n, numbers: sheet };
     let mut b = [0.0; 32];
-    if steps(n, stage - 1, sheet, &mut b) {
-        writing::write_column(n, &b, answer);
-        return Filled::Allowed {
-            allowance: allowance::allowance_of(1, n),
-        };
+    if !steps(stage - 1, sheet, &mut b) {
+        return Err(Question::InRange.into());
     }
-    Filled::Refused {
-        number: 10,
-        row: 0,
-        column: 0,
-    }
+    writing::write_column(n, &b, answer);
+    Ok(allowance::allowance_of(1, n))
 }
 
 // The column of a stage, counted from 1, in the first n places of the answer area.
@@ -91,16 +85,9 @@ pub fn one_column(
     sheet: &[f64],
     stage: usize,
     answer: &mut [f64],
-) -> Filled
+) -> Result<usize, Refusal>
     ensures { ColumnDone reading n e sheet.now stage answer.old answer.new result }
 {
-    let asked = sheet::column_input(reading, n, e, sheet, answer.len(), stage);
-    if asked.number != 0 {
-        return Filled::Refused {
-            number: asked.number,
-            row: asked.row,
-            column: asked.column,
-        };
-    }
+    sheet::column_input(reading, n, e, sheet, answer.len(), stage)?;
     column_of_sheet(reading, n, e, sheet, stage, answer)
 }

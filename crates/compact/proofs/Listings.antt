@@ -1,20 +1,20 @@
 -- The laws of a list of stages: as it grows, and what stands at its places.
 use mathlib.Core.Path.{◌≡◌, refl, sym, ap, ◌∙◌}
 use Prim.Native.Nat.{ℕ, suc, ◌+◌, ◌≤◌, ◌<◌}
-use native.Mathlib.Nat.{le_antisymm}
 use native.Mathlib.Numerals.{add-one}
 use native.Mathlib.Omega.{arith}
 use mathlib.Core.Bool.{Bool, true, false, not, ◌||◌}
 use mathlib.Core.List.{List, [], ◌∷◌, ◌++◌}
+use Rattle.std.specs.Prelude.{Option, Some, None}
 use lib.ListN.{length, get_or, set, length-set}
 use lib.Seq.{take-suc-set, get_or-take, get_or-set_same, get_or-set_other}
-use Rattle.exact.proofs.Cases.{by_equal, by_order}
+use Rattle.exact.proofs.Cases.{by_equal}
 use Rattle.exact.proofs.Bools.{contrary, same_truth, if_in, if_out}
 use Rattle.definitions.specs.Numbers.{all}
 use Rattle.definitions.specs.Compact.{stages_with, rank}
 use Rattle.steps.proofs.All.{each_below, every_below}
 use Rattle.steps.proofs.CompactOrder.{list-take, list_leave, list_alike, rank-none, rank-take, rank_leave, rank-within, rank_below, stage_of_rank, Listed, listed}
-use Rattle.compact.specs.Listing.{IsMask, MaskOf, stage_at, Listing, Stages, Found}
+use Rattle.compact.specs.Listing.{IsMask, MaskOf, stage_at, Listing, StagesBelow, StagesDiffer, Found}
 
 -- ---- marks, one stage after another
 module _ {test : ℕ → Bool} {mask : List Bool} where
@@ -53,9 +53,6 @@ module _ (test : ℕ → Bool) where
     listing_leave e =
         record { long = h.long; counted = h.counted ∙ sym (rank_leave test i e); front = h.front ∙ sym (list_leave test i e) }
 
-    pub listing_all : {n : ℕ} → i ≤ n → n ≤ i → Listing test n r stages
-    listing_all l m = rw (le_antisymm l m) at h
-
 -- ---- what stands at its places
 module _ {test : ℕ → Bool} {n r : ℕ} {stages : List ℕ} (h : Listing test n r stages) where
   pub listing_at : (q : ℕ) → q < r → stage_at stages q ≡ get_or (stages_with test n) q 0
@@ -64,14 +61,14 @@ module _ {test : ℕ → Bool} {n r : ℕ} {stages : List ℕ} (h : Listing test
   pub listing_stage : (q : ℕ) → q < r → Listed test n q (stage_at stages q)
   listing_stage q l = rw (listing_at q l) (listed test n q (rw h.counted at l))
 
-  pub listing_stages : n ≤ 32 → Stages n r stages
-  listing_stages l =
-      record {
-        long = h.long;
-        room = let w = rank-within test n in omega (arith, h.counted);
-        below = λ q g. (listing_stage q g).below;
-        once = λ p q u v e. sym (listing_stage p u).place ∙ ap (rank test) e ∙ (listing_stage q v).place;
-      }
+  pub listing_few : r ≤ n
+  listing_few = let w = rank-within test n in omega (arith, h.counted)
+
+  pub listing_below : StagesBelow n r stages
+  listing_below q l = (listing_stage q l).below
+
+  pub listing_differ : StagesDiffer r stages
+  listing_differ p q u v e = sym (listing_stage p u).place ∙ ap (rank test) e ∙ (listing_stage q v).place
 
   -- The place of a stage that passes.
   pub record Place (i : ℕ) : Type 0 where
@@ -85,19 +82,15 @@ module _ {test : ℕ → Bool} {n r : ℕ} {stages : List ℕ} (h : Listing test
       let w : rank test i < r = rw h.counted (rank_below test n i l t) in
       record { place = rank test i; within = w; stands = listing_at (rank test i) w ∙ stage_of_rank test n i l t; ranked = refl }
 
-  -- The place that a search found: the stage's rank where it passes, and past the list where it does not.
-  module _ {i q : ℕ} (l : i < n) (f : Found r stages i q) where
-    pub found_passes : test i ≡ true → q ≡ rank test i
-    found_passes t =
-        by_order r q
-        (λ g. let w = place_of i l t in absurd (f.none (le_antisymm f.inside g) w.place w.within w.stands))
-        (λ g. sym (rw (f.at g) at (listing_stage q g).place))
+  -- The place that a search found: the stage's rank where it passes, and none where it does not.
+  module _ {i : ℕ} (l : i < n) where
+    pub found_passes : (place : Option ℕ) → Found r stages i place → test i ≡ true → place ≡ Some (rank test i)
+    found_passes None f t = let w = place_of i l t in absurd (f w.place w.within w.stands)
+    found_passes (Some q) f t = ap Some (sym (rw f.1 at (listing_stage q f.0).place))
 
-    pub found_fails : test i ≡ false → q ≡ r
-    found_fails t =
-        by_order r q
-        (λ g. le_antisymm f.inside g)
-        (λ g. absurd (contrary (test i) (rw (f.at g) at (listing_stage q g).passes) t))
+    pub found_fails : (place : Option ℕ) → Found r stages i place → test i ≡ false → place ≡ None
+    found_fails None f t = refl
+    found_fails (Some q) f t = absurd (contrary (test i) (rw f.1 at (listing_stage q f.0).passes) t)
 
   -- A test at every place of the list is the test at every stage that passes.
   pub all_listed : (p : ℕ → Bool) → all (λ q. p (stage_at stages q)) 0 r ≡ all (λ i. not (test i) || p i) 0 n
@@ -118,10 +111,3 @@ unfolding rank
 listing_same {test} {other} {n} e h =
     let s = list_alike test other n e in
     record { long = h.long; counted = h.counted ∙ ap length s; front = h.front ∙ s }
-
--- ---- a stage that was read from the list
-pub stages_wider : {m n r : ℕ} {stages : List ℕ} → m ≤ n → Stages m r stages → Stages n r stages
-stages_wider l s = record { long = s.long; room = s.room; below = λ q g. let b = s.below q g in omega arith; once = s.once }
-
-pub stage-below : {n r q s : ℕ} {stages : List ℕ} → Stages n r stages → q < r → s ≡ stage_at stages q → s < n
-stage-below {q = q} h l e = rw e (h.below q l)

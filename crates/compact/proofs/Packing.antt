@@ -1,14 +1,14 @@
 -- Rows, tables and vectors in compact order, as they are filled.
-use mathlib.Core.Path.{◌≡◌, refl, ap, ◌∙◌}
+use mathlib.Core.Path.{◌≡◌, ap, ◌∙◌}
 use Prim.Native.Nat.{ℕ, ◌+◌, ◌≤◌, ◌<◌, zero-le}
 use native.Mathlib.Nat.{le_antisymm}
 use native.Mathlib.Omega.{arith}
 use mathlib.Core.List.{List}
 use lib.Ieee.{Float}
 use Rattle.exact.proofs.Cases.{by_equal}
-use Rattle.tables.specs.RowMajor.{IsTable, table, Holds}
+use Rattle.tables.specs.RowMajor.{table, Holds}
 use Rattle.tables.specs.Operators.{replace, between, put}
-use Rattle.tables.specs.Vectors.{IsVector, vector, VectorHolds}
+use Rattle.tables.specs.Vectors.{vector, VectorHolds}
 use Rattle.tables.proofs.Operators.{replace_same, replace_other, between_in, put-at, put_else}
 use Rattle.compact.specs.Compact.{Packed, UnpackedRow, Unpacked, UnpackedVector}
 
@@ -23,13 +23,7 @@ packed_all {r} {stage} f g h =
     }
 
 -- ---- the way back
-none_yet : {P : Type 0} {q : ℕ} → q < 0 → P
-none_yet l = let z : ⊥ = omega arith in absurd z
-
 module _ {stage : ℕ → ℕ} {y : ℕ → ℕ → Float} {r : ℕ} (once : (p q : ℕ) → p < r → q < r → stage p ≡ stage q → p ≡ q) where
-  pub row_begins : {p : ℕ} {xs : List Float} → IsTable xs → UnpackedRow stage y p 0 (table xs) xs
-  row_begins e = record { long = e; at = λ q l. none_yet l; rest = λ i j n. refl }
-
   pub row_turns : {p m i j : ℕ} {z : Float} {x : ℕ → ℕ → Float} {xs ys : List Float} → m < r → i ≡ stage p → j ≡ stage m → z ≡ y p m
       → UnpackedRow stage y p m x xs
       → Holds ys (put i j z (table xs))
@@ -49,9 +43,6 @@ module _ {stage : ℕ → ℕ} {y : ℕ → ℕ → Float} {r : ℕ} (once : (p 
   pub row_ends : {p m : ℕ} {x : ℕ → ℕ → Float} {xs : List Float} → UnpackedRow stage y p m x xs → m ≤ r → r ≤ m → UnpackedRow stage y p r x xs
   row_ends h l m = rw (le_antisymm l m) at h
 
-  pub rows_begin : {xs : List Float} → IsTable xs → Unpacked stage y r 0 (table xs) xs
-  rows_begin e = record { long = e; at = λ p q l. none_yet l; rest = λ i j n. refl }
-
   pub rows-turn : {m : ℕ} {x : ℕ → ℕ → Float} {xs ys : List Float} → m < r → Unpacked stage y r m x xs → UnpackedRow stage y m r (table xs) ys → Unpacked stage y r (m + 1) x ys
   rows-turn {m} l h k =
       record {
@@ -62,14 +53,8 @@ module _ {stage : ℕ → ℕ} {y : ℕ → ℕ → Float} {r : ℕ} (once : (p 
         rest = λ i j n. k.rest i j (λ s q g t. n m (omega arith) s q g t) ∙ h.rest i j (λ p g s q u t. n p (omega arith) s q u t);
       }
 
-  pub rows_end : {m : ℕ} {x : ℕ → ℕ → Float} {xs : List Float} → Unpacked stage y r m x xs → m ≤ r → r ≤ m → Unpacked stage y r r x xs
-  rows_end h l m = rw (le_antisymm l m) at h
-
 -- ---- a vector
 module _ {stage : ℕ → ℕ} {y : ℕ → Float} {r : ℕ} (once : (p q : ℕ) → p < r → q < r → stage p ≡ stage q → p ≡ q) where
-  pub vector_begins : {xs : List Float} → IsVector xs → UnpackedVector stage y 0 (vector xs) xs
-  vector_begins e = record { long = e; at = λ q l. none_yet l; rest = λ i n. refl }
-
   pub vector_turns : {m i : ℕ} {z : Float} {x : ℕ → Float} {xs ys : List Float} → m < r → i ≡ stage m → z ≡ y m
       → UnpackedVector stage y m x xs
       → VectorHolds ys (replace i z (vector xs))
@@ -85,6 +70,3 @@ module _ {stage : ℕ → ℕ} {y : ℕ → Float} {r : ℕ} (once : (p q : ℕ)
             ∙ replace_other i z (vector xs) o (λ s. n m (omega arith) (s ∙ a))
             ∙ h.rest o (λ u g t. n u (omega arith) t);
       }
-
-  pub vector_ends : {m : ℕ} {x : ℕ → Float} {xs : List Float} → UnpackedVector stage y m x xs → m ≤ r → r ≤ m → UnpackedVector stage y r x xs
-  vector_ends h l m = rw (le_antisymm l m) at h

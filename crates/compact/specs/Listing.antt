@@ -1,5 +1,6 @@
 -- A rising list of stages at the front of 32 places (document 01, "Compact order" in the steps for margins).
-use Rattle.std.specs.Prelude.{◌≡◌, ℕ, ◌≤◌, ◌<◌, Bool, false, List, length, get_or, take}
+use Rattle.std.specs.Prelude.{◌≡◌, ℕ, ◌<◌, Bool, false, List, Option, length, get_or, take}
+use Rattle.std.specs.Option.{MatchOption}
 use Rattle.definitions.specs.Compact.{stages_with, rank}
 
 -- A mark for each of the 32 places; and the stages that a mask marks.
@@ -24,15 +25,13 @@ pub record Listing (test : ℕ → Bool) (n count : ℕ) (stages : List ℕ) : T
   pub counted : count ≡ rank test n
   pub front : take count stages ≡ stages_with test n
 
--- What packing asks: the first r places hold different stages below n.
-pub record Stages (n r : ℕ) (stages : List ℕ) : Type 0 where
-  pub long : length stages ≡ 32
-  pub room : r ≤ 32
-  pub below : (q : ℕ) → q < r → stage_at stages q < n
-  pub once : (p q : ℕ) → p < r → q < r → stage_at stages p ≡ stage_at stages q → p ≡ q
+-- The stages at the first r places are below n; and they differ from each other.
+abbrev pub StagesBelow : ℕ → ℕ → List ℕ → Type 0
+StagesBelow n r stages = (q : ℕ) → q < r → stage_at stages q < n
 
--- The place q of stage i among the first r of the list, or r where it is not there.
-pub record Found (r : ℕ) (stages : List ℕ) (i q : ℕ) : Type 0 where
-  pub inside : q ≤ r
-  pub at : q < r → stage_at stages q ≡ i
-  pub none : q ≡ r → (p : ℕ) → p < r → stage_at stages p ≡ i → ⊥
+abbrev pub StagesDiffer : ℕ → List ℕ → Type 0
+StagesDiffer r stages = (p q : ℕ) → p < r → q < r → stage_at stages p ≡ stage_at stages q → p ≡ q
+
+-- The place of stage i among the first r of the list; none where it stands at none of them.
+abbrev pub Found : ℕ → List ℕ → ℕ → Option ℕ → Type 0
+Found r stages i place = MatchOption place ((q : ℕ) → q < r → stage_at stages q ≡ i → ⊥) (λ q. (q < r) × (stage_at stages q ≡ i))

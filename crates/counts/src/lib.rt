@@ -6,6 +6,7 @@ ghost use Rattle.std.specs.Prelude.{◌≡◌, ◌≤◌};
 ghost use Rattle.definitions.specs.File.{file_length};
 ghost use Rattle.definitions.specs.Sheet.{sheet_rows, sheet_numbers};
 
+#[tactic(auto, unfolding(definitions::specs::Sheet::sheet_rows))]
 pub fn rows(reading: usize, n: usize) -> usize
     requires { n ≤ 32 }
     ensures { result ≡ sheet_rows reading n }
@@ -16,6 +17,7 @@ pub fn rows(reading: usize, n: usize) -> usize
     n
 }
 
+#[tactic(auto, unfolding(definitions::specs::Sheet::sheet_numbers))]
 pub fn numbers(reading: usize, n: usize) -> usize
     requires { n ≤ 32 }
     ensures { result ≡ sheet_numbers reading n }
@@ -26,6 +28,7 @@ pub fn numbers(reading: usize, n: usize) -> usize
     n * n
 }
 
+#[tactic(auto, unfolding(definitions::specs::File::file_length, definitions::specs::File::head_length))]
 pub fn file_bytes(reading: usize, n: usize) -> usize
     requires { n ≤ 32 }
     ensures { result ≡ file_length reading n }

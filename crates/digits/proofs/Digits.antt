@@ -10,6 +10,8 @@ use native.Mathlib.Omega.{arith}
 use borrow.Author.Tests.{lt-ltb, le-ltb}
 use lib.Dec.{ltb}
 use lib.ListN.{length, length-append}
+use Rattle.std.proofs.lemmas.Fmt.{decimal_by_steps_wide}
+use Rattle.std.specs.Fmt as library
 use Rattle.definitions.specs.Dwell.{digits, decimal, hexadecimal}
 
 -- A decimal number and the byte that ends its field.
@@ -43,15 +45,13 @@ pub decimal_more : (a : ℕ) → 10 ≤ a → a < 10 ^ 20 → decimal a ≡ deci
 unfolding decimal
 decimal_more a large h = digits_more 19 a large ∙ ap (λ (front : List ℕ). front ++ ((48 + a % 10) ∷ [])) (sym (digits_enough 18 (a / 10) (omega arith)))
 
-pub length-decimal-one : (a : ℕ) → a < 10 → length (decimal a) ≡ 1
-length-decimal-one a h = rw (decimal-one a h)
-
-pub length-decimal_more : (a : ℕ) → 10 ≤ a → a < 10 ^ 20 → length (decimal a) ≡ length (decimal (a / 10)) + 1
-length-decimal_more a large h = rw (decimal_more a large h) (length-append (decimal (a / 10)) _)
-
-pub decimal_some : (a : ℕ) → 0 < length (decimal a)
-unfolding decimal digits
-decimal_some a = rw length-append (omega arith)
+-- The library's decimal digits are the same.
+pub decimal_is : (a : ℕ) → a < 10 ^ 20 → library.decimal a ≡ decimal a
+decimal_is a h =
+    decimal_by_steps_wide (λ n text. n < 10 ^ 20 → text ≡ decimal n)
+    (λ n small h. sym (decimal-one n small))
+    (λ n text large front h. rw (front (omega arith)) (sym (decimal_more n large h)))
+    a (omega arith) h
 
 -- A number below 10^(k + 1) has at most k + 1 digits.
 at-most_more : (k m a : ℕ) → length (digits m (a / 10)) ≤ k → Dec (a < 10) → length (digits (suc m) a) ≤ suc k
@@ -66,6 +66,10 @@ digits-at-most (suc k) (suc m) a h = at-most_more (suc k) m a (digits-at-most k 
 pub decimal-at-most : (k a : ℕ) → a < 10 ^ suc k → length (decimal a) ≤ suc k
 unfolding decimal
 decimal-at-most k a h = digits-at-most k 20 a h
+
+-- One of 64 bits has at most 20.
+pub decimal_short : (a : ℕ) → a < 2 ^ 64 → length (decimal a) ≤ 20
+decimal_short a h = decimal-at-most 19 a (omega arith)
 
 -- No hexadecimal digits; the last of m and those before it; there are as many as asked for.
 pub hexadecimal-none : (a : ℕ) → hexadecimal 0 a ≡ []

@@ -1,42 +1,25 @@
 -- A signed number by its sign: the minus sign and what follows it.
-use mathlib.Core.Path.{◌≡◌, refl, ap}
-use mathlib.Core.Bool.{true, false, true≢false}
+use mathlib.Core.Path.{◌≡◌, ap}
 use mathlib.Core.List.{List, [], ◌∷◌, ◌++◌}
-use Prim.Native.Nat.{ℕ, suc, ◌+◌, ◌-◌, ◌^◌, ◌≤◌, ◌<◌}
+use Prim.Native.Nat.{ℕ, suc, ◌^◌, ◌≤◌, ◌<◌}
 use native.Mathlib.Omega.{arith}
-use borrow.Author.Tests.{le-ltb, ltb-true}
-use lib.IntN.{ℤ, pos, negsuc, nat_abs, ◌-ℤ◌}
+use lib.IntN.{ℤ, pos, negsuc}
 use lib.ListN.{length, length-append}
-use lib.Signed.{mag, lt_z}
+use lib.Signed.{mag}
+use Rattle.std.specs.Fmt.{signed_decimal}
 use Rattle.definitions.specs.Dwell.{text, integer}
 use Rattle.buffer.specs.Pasted.{Room, Written}
-use Rattle.digits.proofs.Digits.{field, decimal-at-most}
+use Rattle.digits.proofs.Digits.{decimal_is, decimal-at-most}
 
 -- A signed number and the byte that ends its field.
 abbrev pub signed_field : ℤ → ℕ → List ℕ
 signed_field value end = integer value ++ (end ∷ [])
 
-pub size_of_negative : (value : ℤ) → lt_z value (pos 0) ≡ true → negsuc 0 -ℤ value ≡ pos (mag value)
-size_of_negative (pos m) t = absurd (omega (arith, ltb-true m 0 t))
-size_of_negative (negsuc m) t =
-    let same : suc m - 1 ≡ m = omega arith in
-    rw (le-ltb (suc m) 1 (omega arith)) (ap pos same)
-
-pub negative_pieces : (value : ℤ) → lt_z value (pos 0) ≡ true → (end : ℕ) → signed_field value end ≡ (45 ∷ []) ++ field (mag value + 1) end
+-- The library's text of a signed number is the same.
+pub integer_is : (value : ℤ) → mag value < 2 ^ 63 → signed_decimal value ≡ integer value
 unfolding integer text
-negative_pieces (pos m) t end = absurd (omega (arith, ltb-true m 0 t))
-negative_pieces (negsuc m) t end =
-    let next : m + 1 ≡ suc m = omega arith in
-    rw next
-
-pub not_negative : (value : ℤ) → lt_z value (pos 0) ≡ false → value ≡ pos (nat_abs value)
-not_negative (pos m) t = refl
-not_negative (negsuc m) t = absurd (true≢false t)
-
-pub positive_pieces : (value : ℤ) → lt_z value (pos 0) ≡ false → (end : ℕ) → signed_field value end ≡ field (nat_abs value) end
-unfolding integer
-positive_pieces (pos m) t end = refl
-positive_pieces (negsuc m) t end = absurd (true≢false t)
+integer_is (pos m) h = decimal_is m (omega arith)
+integer_is (negsuc m) h = ap (λ (size : List ℕ). 45 ∷ size) (decimal_is (suc m) (omega arith))
 
 -- A signed number of 64 bits has at most 20 digits and a sign.
 pub integer-at-most : (value : ℤ) → mag value < 2 ^ 63 → length (integer value) ≤ 21

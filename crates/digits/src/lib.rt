@@ -1,58 +1,36 @@
 // Decimal numbers, with and without a sign, written into a lent buffer as `buffer` writes.
 #![tactic(auto)]
 
-ghost use Rattle.std.specs.Prelude.{◌≡◌, [], ◌∷◌, ◌++◌, length};
+ghost use Rattle.std.specs.Prelude.{[], ◌∷◌, ◌++◌};
 ghost use Rattle.definitions.specs.Dwell.{decimal, integer};
 ghost use Rattle.buffer.specs.Pasted.{Room, Written};
 
-// How many decimal digits a number has.
-fn digit_count(value: usize) -> usize
-    ensures { result ≡ length (decimal value) }
-{
-    let mut count = 1;
-    let mut rest = value;
-    while 10 <= rest {
-        rest = rest / 10;
-        count += 1;
-    }
-    count
-}
+use itoa::{Buffer, Integer};
 
-// The digits are written from the last to the first.
-fn put_decimal(value: usize, at: usize, out: &mut [u8]) -> usize
-    requires { Room (decimal value) at out.old }
-    ensures { Written (decimal value) at out.old out.new result }
+// The text of a number, and the byte that ends its field.
+fn put_text<I: Integer>(value: I, end: u8, at: usize, out: &mut [u8]) -> usize
+    requires { Room (I.text value ++ (end ∷ [])) at out.old }
+    ensures { Written (I.text value ++ (end ∷ [])) at out.old out.new result }
 {
-    let end = at + digit_count(value);
-    let mut last = end - 1;
-    let mut rest = value;
-    while 10 <= rest {
-        out[last] = b'0' + (rest % 10) as u8;
-        rest = rest / 10;
-        last -= 1;
-    }
-    out[last] = b'0' + rest as u8;
-    end
+    let mut digits = Buffer::new();
+    let next = buffer::put_bytes(digits.format(value).as_bytes(), at, out);
+    buffer::put_byte(end, next, out)
 }
 
 // A number and the byte that ends its field.
+#[tactic(auto, using(crate::proofs::Digits::decimal_is))]
 pub fn put_field(value: usize, end: u8, at: usize, out: &mut [u8]) -> usize
     requires { Room (decimal value ++ (end ∷ [])) at out.old }
     ensures { Written (decimal value ++ (end ∷ [])) at out.old out.new result }
 {
-    let next = put_decimal(value, at, out);
-    buffer::put_byte(end, next, out)
+    put_text::<usize>(value, end, at, out)
 }
 
 // The same for a signed number, with a minus sign where it is negative.
+#[tactic(auto, using(crate::proofs::Integers::integer_is))]
 pub fn put_integer(value: i64, end: u8, at: usize, out: &mut [u8]) -> usize
     requires { Room (integer value ++ (end ∷ [])) at out.old }
     ensures { Written (integer value ++ (end ∷ [])) at out.old out.new result }
 {
-    if value < 0 {
-        let size = (-1 - value) as usize + 1;
-        let next = buffer::put_byte(b'-', at, out);
-        return put_field(size, end, next, out);
-    }
-    put_field(value as usize, end, at, out)
+    put_text::<i64>(value, end, at, out)
 }

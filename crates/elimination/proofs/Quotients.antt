@@ -1,5 +1,5 @@
 -- From the passes over b to the table of quotients.
-use mathlib.Core.Path.{◌≡◌, refl, ap, ap₂, ◌∙◌}
+use mathlib.Core.Path.{◌≡◌, ap, ap₂, ◌∙◌}
 use Prim.Native.Nat.{ℕ, suc, ◌-◌, ◌<◌}
 use native.Mathlib.Omega.{arith}
 use mathlib.Core.Bool.{Bool, true, false, ◌&&◌, ◌||◌}
@@ -7,7 +7,7 @@ use mathlib.Core.List.{List}
 use lib.Dec.{T, eqb}
 use lib.Ieee.{Float}
 use lib.Ieee.Fits.{and_i, and_l, and_r}
-use Rattle.exact.proofs.Bools.{same_truth, contrary}
+use Rattle.exact.proofs.Bools.{same_truth}
 use Rattle.definitions.specs.Numbers.{finite, div_in_range, add_product_in_range, all}
 use Rattle.definitions.specs.LeavingRates.{Weights, System, downward, pivot_in_range, p, u, m↓, b↓, solved, row_in_range, stage_in_range, shared_before, shared, in_range}
 use Rattle.rounding.proofs.Finite.{quotient_of_range, dividend_of_range}
@@ -56,10 +56,6 @@ dividends_finite r g f t i l j m = dividend_of_range (f i j) (g i i) (each_below
 
 finite_same : (r : ℕ) (e f : ℕ → ℕ → Float) → ((i j : ℕ) → i < r → j < r → e i j ≡ f i j) → FiniteTable r e → FiniteTable r f
 finite_same r e f same h i l j m = rw (← same i j l m) (h i l j m)
-
--- Upward a pass asks nothing.
-pub upward_starts : {r : ℕ} {g f : ℕ → ℕ → Float} → PassStarts r true g f
-upward_starts = record { identity = λ e. absurd (contrary true refl e); multipliers = λ e. absurd (contrary true refl e) }
 
 module _ (w : Weights) (r : ℕ) (f : ℕ → ℕ → Float) {t : List Float} {ok : Bool} (s : SharedTable w r f ok t) where
   at : ℕ → System

@@ -6,7 +6,7 @@
 #![tactic(auto)]
 
 ghost use Rattle.std.specs.Prelude.{◌≤◌};
-ghost use Rattle.tables.specs.RowMajor.{IsTable, ZeroTable, table};
+ghost use Rattle.tables.specs.RowMajor.{ZeroTable, table};
 ghost use Rattle.passes.specs.Weights.{weights_in, Enough};
 ghost use Rattle.elimination.specs.Quotients.{QuotientTable};
 
@@ -14,15 +14,15 @@ ghost use Rattle.elimination.specs.Quotients.{QuotientTable};
 // before; afterwards it is left open outside r × r, and everywhere where a step is not in range, and so is
 // t.
 pub fn solve(r: usize, weights: &[f64], t: &mut [f64; 1024], b: &mut [f64; 1024]) -> bool
-    requires { (r ≤ 32) × Enough r weights.now × IsTable t.old × ZeroTable b.old }
+    requires { (r ≤ 32) × Enough r weights.now × ZeroTable b.old }
     ensures { QuotientTable (weights_in weights.now) r (table t.old) result b.new }
 {
     if !downward::shared(r, weights, t) {
         return false;
     }
     columns::identity(r, b);
-    let down = columns::pass(r, false, t, b);
-    let up = columns::pass(r, true, t, b);
+    let down = columns::pass::<false>(r, t, b);
+    let up = columns::pass::<true>(r, t, b);
     let last = columns::quotients(r, t, b);
     down & up & last
 }

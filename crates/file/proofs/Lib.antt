@@ -1,2 +1,3 @@
+pub mod Areas
 pub mod Reading
 mod SaveAnswers

@@ -1,1 +1,1 @@
-mod FileCalls
+pub mod FileCalls

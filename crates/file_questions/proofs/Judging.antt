@@ -14,9 +14,10 @@ use Rattle.definitions.specs.Questions.{Asked, pass, refuse, ◌then◌, known_r
 use Rattle.definitions.specs.Sheet.{sheet_rows, sheet_numbers}
 use Rattle.definitions.specs.Services.{refused}
 use Rattle.definitions.specs.File.{record_kind, record_length, little, rest, whole_record, head_reading, head_stages, head_unit, known_head, good_head, good_record, record_questions, file_questions, head_of, file_answer}
-use Rattle.answers.specs.declared.Loaded.{Loaded}
-use Rattle.answers.specs.declared.Loaded.TheVariants.{Sheet}
-use Rattle.answers.specs.Answers.{head_given}
+use Rattle.std.specs.Prelude.{Result, Ok}
+use Rattle.answers.specs.declared.Head.{Head}
+use Rattle.answers.specs.declared.Refusal.{Refusal}
+use Rattle.answers.specs.Answers.{head_told}
 use Rattle.exact.proofs.Bools.{and_first, and_second, holds}
 use Rattle.counts.proofs.Counts.{rows_few}
 use Rattle.records.proofs.Records.{whole_room}
@@ -117,11 +118,11 @@ module _ (bytes : List ℕ) (room : ℕ) where
           rw (none, length-drop, empty)
 
   -- The answer from the questions.
-  pub refused_by : (number row : ℕ) (r : Loaded) → head_given r ≡ refused number row 0 → file_questions bytes room ≡ refuse number row 0 → head_given r ≡ file_answer bytes room
+  pub refused_by : (number row : ℕ) (r : Result Head Refusal) → head_told r ≡ refused number row 0 → file_questions bytes room ≡ refuse number row 0 → head_told r ≡ file_answer bytes room
   unfolding file_answer
   refused_by number row r i e = i ∙ rw e
 
-  pub given_by : (reading n : ℕ) (e : ℤ) → reading ≡ head_reading bytes → n ≡ head_stages bytes → e ≡ head_unit bytes → file_questions bytes room ≡ pass → head_given (Sheet reading n e) ≡ file_answer bytes room
+  pub given_by : (reading n : ℕ) (e : ℤ) → reading ≡ head_reading bytes → n ≡ head_stages bytes → e ≡ head_unit bytes → file_questions bytes room ≡ pass → head_told (Ok (record { reading = reading; n = n; e = e })) ≡ file_answer bytes room
   unfolding file_answer head_of
   given_by reading n e r s u q = rw (q, r, s, u)
 

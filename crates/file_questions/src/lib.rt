@@ -4,9 +4,9 @@
 ghost use Rattle.std.specs.Prelude.{true, ◌≡◌, ◌+◌, ◌≤◌, length, drop};
 ghost use Rattle.definitions.specs.File.{record_length, head_unit, known_head, good_head, good_record, file_answer};
 ghost use Rattle.definitions.specs.Services as services;
-ghost use Rattle.answers.specs.Answers.{head_given};
+ghost use Rattle.answers.specs.Answers.{number, head_told};
 
-use answers::Loaded;
+use answers::{Head, Question, Refusal};
 use records::{field_at, is_whole, record_end, signed_at};
 
 // The unit that a head says, of either length; an old head says none, and its unit is the second.
@@ -60,49 +60,48 @@ fn is_good_record(bytes: &[u8], at: usize, n: usize, due: usize) -> bool
 }
 
 // A refusal with a row; the questions about files never have a column.
-fn refused(number: usize, row: usize) -> Loaded
-    ensures { head_given result ≡ services.refused number row 0 }
+fn refused(question: Question, row: usize) -> Result<Head, Refusal>
+    ensures { head_told result ≡ services.refused (number question) row 0 }
 {
-    Loaded::Refused {
-        number,
+    Err(Refusal {
+        question,
         row,
         column: 0,
-    }
+    })
 }
 
 // The answer for a file and the length of the lent area: questions 11 to 14, then 4. Questions 1
 // and 2 need no test of their own, for 12 has asked both.
-pub fn judge(bytes: &[u8], room: usize) -> Loaded
-    ensures { head_given result ≡ file_answer bytes.now room }
+pub fn judge(bytes: &[u8], room: usize) -> Result<Head, Refusal>
+    ensures { head_told result ≡ file_answer bytes.now room }
 {
     if !is_whole(bytes, 0) {
-        return refused(11, 0);
+        return refused(Question::WholeRecord, 0);
     }
     if !is_good_head(bytes) {
-        return refused(12, 0);
+        return refused(Question::Head, 0);
     }
     let reading = field_at(bytes, 6, 2);
     let n = field_at(bytes, 8, 2);
     let e = unit_of(bytes);
     let rows = counts::rows(reading, n);
     let mut at = record_end(bytes, 0);
-    let mut due = 1;
-    while due <= rows {
+    for row in 0..rows {
+        let due = row + 1;
         if !is_whole(bytes, at) {
-            return refused(11, due);
+            return refused(Question::WholeRecord, due);
         }
         if !is_good_record(bytes, at, n, due) {
-            return refused(13, due);
+            return refused(Question::RecordDue, due);
         }
         at = record_end(bytes, at);
-        due += 1;
     }
     let places = counts::numbers(reading, n);
     if at != bytes.len() {
-        return refused(14, 0);
+        return refused(Question::FileEnds, 0);
     }
     if room < places {
-        return refused(4, 0);
+        return refused(Question::Room, 0);
     }
-    Loaded::Sheet { reading, n, e }
+    Ok(Head { reading, n, e })
 }

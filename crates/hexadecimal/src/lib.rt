@@ -20,12 +20,10 @@ pub fn put_hexadecimal(word: u64, at: usize, out: &mut [u8]) -> usize
     requires { Room (hexadecimal 16 word) at out.old }
     ensures { Written (hexadecimal 16 word) at out.old out.new result }
 {
-    let mut left: usize = 16;
     let mut rest = word;
-    while 0 < left {
-        out[at + (left - 1)] = hexadecimal_digit((rest % 16) as u8);
-        rest = rest / 16;
-        left -= 1;
+    for k in (0..16).rev() {
+        out[at + k] = hexadecimal_digit((rest % 16) as u8);
+        rest /= 16;
     }
     at + 16
 }

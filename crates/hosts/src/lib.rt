@@ -91,7 +91,7 @@ pub fn yulanbowls_read_numbers(
 ) -> usize
     ensures { FileCall file_number_area bytes.now area.old area.new reading.old reading.new n.old n.new e.old e.new row.new column.new result }
 {
-    file_calls::read_numbers(bytes, area, reading, n, e, row, column)
+    file_calls::read(bytes, area, reading, n, e, row, column)
 }
 
 // A sheet file's 64-bit words in the first places of the area; every bit is kept.
@@ -106,7 +106,7 @@ pub fn yulanbowls_read_words(
 ) -> usize
     ensures { FileCall file_word_area bytes.now area.old area.new reading.old reading.new n.old n.new e.old e.new row.new column.new result }
 {
-    file_calls::read_words(bytes, area, reading, n, e, row, column)
+    file_calls::read(bytes, area, reading, n, e, row, column)
 }
 
 // A sheet of numbers as a file in the first bytes of the area, each number by its bits.
@@ -122,7 +122,7 @@ pub fn yulanbowls_save_numbers(
 ) -> usize
     ensures { SaveCall saved_numbers reading n e sheet.now bytes.old bytes.new length.old length.new row.new column.new result }
 {
-    file_calls::save_numbers(reading, n, e, sheet, bytes, length, row, column)
+    file_calls::save(reading, n, e, sheet, bytes, length, row, column)
 }
 
 // A sheet of 64-bit words as a file in the first bytes of the area; every bit is kept.
@@ -138,7 +138,7 @@ pub fn yulanbowls_save_words(
 ) -> usize
     ensures { SaveCall saved_words reading n e sheet.now bytes.old bytes.new length.old length.new row.new column.new result }
 {
-    file_calls::save_words(reading, n, e, sheet, bytes, length, row, column)
+    file_calls::save(reading, n, e, sheet, bytes, length, row, column)
 }
 
 // The sheet with its rates times 2^k, in the first places of the area, and its unit.

@@ -5,17 +5,16 @@
 ghost use Rattle.std.specs.Prelude.{◌≡◌, not, ◌<◌};
 ghost use Rattle.definitions.specs.Numbers.{all};
 ghost use Rattle.definitions.specs.Sheet.{idle, takes_part};
-ghost use Rattle.shape.specs.Square.{Square};
 
-use shape::number_at;
+use shape::sheets::Sheet;
 
 // Whether stage i is idle. A stage in use mostly shows it early, so the search ends at its first number.
-pub fn is_idle(n: usize, i: usize, sheet: &[f64]) -> bool
-    requires { Square n sheet.now × (i < n) }
-    ensures { result ≡ idle n sheet.now i }
+pub fn is_idle(i: usize, sheet: Sheet<'_>) -> bool
+    requires { i < sheet.n }
+    ensures { result ≡ idle sheet.entry.n sheet.entry.numbers.now i }
 {
-    for j in 0..n {
-        if (number_at(n, i, j, sheet) != 0.0) | (number_at(n, j, i, sheet) != 0.0) {
+    for j in 0..sheet.n {
+        if (sheet.number_at(i, j) != 0.0) | (sheet.number_at(j, i) != 0.0) {
             return false;
         }
     }
@@ -24,12 +23,11 @@ pub fn is_idle(n: usize, i: usize, sheet: &[f64]) -> bool
 
 // Whether some stage is idle. The diagonal is asked first: a stage with a leaving rate is told there, by one
 // number, so a sheet without idle stages costs next to nothing.
-pub fn some_idle(n: usize, sheet: &[f64]) -> bool
-    requires { Square n sheet.now }
-    ensures { result ≡ not (all (takes_part 1 n sheet.now) 0 n) }
+pub fn some_idle(sheet: Sheet<'_>) -> bool
+    ensures { result ≡ not (all (takes_part 1 sheet.entry.n sheet.entry.numbers.now) 0 sheet.entry.n) }
 {
-    for i in 0..n {
-        if (number_at(n, i, i, sheet) == 0.0) && is_idle(n, i, sheet) {
+    for i in 0..sheet.n {
+        if (sheet.number_at(i, i) == 0.0) && is_idle(i, sheet) {
             return true;
         }
     }

@@ -1,7 +1,7 @@
 -- The loops of a stage that joins, turn by turn, and its parts put together.
 use mathlib.Core.Path.{◌≡◌, refl, sym, ◌∙◌}
-use Prim.Native.Nat.{ℕ, suc, ◌+◌, ◌-◌, ◌≤◌}
-use native.Mathlib.Nat.{le_antisymm, zero-add}
+use Prim.Native.Nat.{ℕ, suc, ◌+◌, ◌-◌}
+use native.Mathlib.Nat.{zero-add}
 use native.Mathlib.Numerals.{add-one}
 use mathlib.Core.List.{List}
 use lib.Ieee.{Float}
@@ -29,9 +29,6 @@ module _ {known : ℕ → Bool} {row w : ℕ → Float} where
     pub known_skips : known l ≡ false → KnownSum known row w (l + 1) x ok
     unfolding sum_with all
     known_skips k = rw (add-one l) (record { sums = rw k h.sums; tests = rw (zero-add l, k, and-true) h.tests })
-
-    pub known-all : {n : ℕ} → l ≤ n → n ≤ l → KnownSum known row w n x ok
-    known-all m o = rw (le_antisymm m o) at h
 
 -- ---- row i with its place in column c
 module _ (n c : ℕ) (known : ℕ → Bool) (w : ℕ → Float) (i : ℕ) (f : ℕ → ℕ → Float) where
@@ -83,6 +80,3 @@ module _ (n : ℕ) (t : ℕ → ℕ → Float) (a : ℕ → Float) (kept : ℕ �
   unfolding stages_joined stages_test all
   joins_turn {q} g s =
       rw (add-one q) (record { range = rw (zero-add q, s.range, g.range, g.holds.is); holds = record { long = s.holds.long; is = s.holds.is ∙ rw g.holds.is } })
-
-  pub joins_end : {q : ℕ} {f : ℕ → ℕ → Float} {ok : Bool} {xs : List Float} → StagesJoin n t a kept f q ok xs → q ≤ n → n ≤ q → StagesJoin n t a kept f n ok xs
-  joins_end g l m = rw (le_antisymm l m) at g

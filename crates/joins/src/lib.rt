@@ -2,9 +2,9 @@
 #![tactic(auto)]
 
 ghost use Rattle.std.specs.Prelude.{◌≡◌, ◌≤◌, ◌<◌};
-ghost use Rattle.tables.specs.RowMajor.{IsTable, table};
-ghost use Rattle.tables.specs.Vectors.{IsVector, vector};
-ghost use Rattle.compact.specs.Listing.{IsMask, marked};
+ghost use Rattle.tables.specs.RowMajor.{table};
+ghost use Rattle.tables.specs.Vectors.{vector};
+ghost use Rattle.compact.specs.Listing.{marked};
 ghost use Rattle.joins.specs.StageJoin.{knows, Factors, KnownSum, PlaceFilled, ColumnFilled, JoinDone};
 ghost use Rattle.joins.specs.Joins.{StageJoins, StagesJoin};
 
@@ -13,7 +13,7 @@ use tables::{row, vector};
 
 // The stages that are known as stage c joins: the kept ones and those above c.
 fn is_known(c: usize, i: usize, kept: &[bool; 32]) -> bool
-    requires { (i < 32) × IsMask kept.now }
+    requires { i < 32 }
     ensures { result ≡ knows c (marked kept.now) i }
 {
     let own = kept[i];
@@ -30,7 +30,7 @@ fn factors(
     kept: &[bool; 32],
     w: &mut [f64; 32],
 ) -> bool
-    requires { (n ≤ 32) × (c < 32) × IsTable t.now × IsMask kept.now × IsVector w.old }
+    requires { (n ≤ 32) × (c < 32) }
     ensures { Factors n (knows c (marked kept.now)) (λ l. table t.now l c) p (vector w.old) result w.new }
 {
     let mut ok = true;
@@ -54,7 +54,7 @@ fn column_sum(
     w: &[f64; 32],
     x: &[f64; 1024],
 ) -> Sum
-    requires { (n ≤ 32) × (i < 32) × IsMask kept.now × IsVector w.now × IsTable x.now }
+    requires { (n ≤ 32) × (i < 32) }
     ensures { KnownSum (knows c (marked kept.now)) (table x.now i) (vector w.now) n result.value result.ok }
 {
     let mut sum = 0.0;
@@ -81,7 +81,7 @@ fn fill_place(
     w: &[f64; 32],
     x: &mut [f64; 1024],
 ) -> bool
-    requires { (n ≤ 32) × (c < 32) × (i < 32) × IsMask kept.now × IsVector w.now × IsTable x.old }
+    requires { (n ≤ 32) × (c < 32) × (i < 32) }
     ensures { PlaceFilled n (knows c (marked kept.now)) c (vector w.now) i result (table x.old) x.new }
 {
     if is_known(c, i, kept) {
@@ -94,7 +94,7 @@ fn fill_place(
 }
 
 fn fill_column(n: usize, c: usize, kept: &[bool; 32], w: &[f64; 32], x: &mut [f64; 1024]) -> bool
-    requires { (n ≤ 32) × (c < 32) × IsMask kept.now × IsVector w.now × IsTable x.old }
+    requires { (n ≤ 32) × (c < 32) }
     ensures { ColumnFilled n (knows c (marked kept.now)) c (vector w.now) result (table x.old) x.new }
 {
     let mut ok = true;
@@ -114,7 +114,7 @@ fn join(
     kept: &[bool; 32],
     x: &mut [f64; 1024],
 ) -> bool
-    requires { (n ≤ 32) × (c < 32) × IsTable t.now × IsVector a.now × IsMask kept.now × IsTable x.old }
+    requires { (n ≤ 32) × (c < 32) }
     ensures { let t = table t.entry.now in JoinDone n (knows c (marked kept.now)) c (λ l. t l c) (vector a.now c) result (table x.old) x.new }
 {
     let p = vector::get(c, a);
@@ -137,7 +137,7 @@ fn join_stage(
     kept: &[bool; 32],
     x: &mut [f64; 1024],
 ) -> bool
-    requires { (q < n) × (n ≤ 32) × IsTable t.now × IsVector a.now × IsMask kept.now × IsTable x.old }
+    requires { (q < n) × (n ≤ 32) }
     ensures { StageJoins n (table t.now) (vector a.now) (marked kept.now) q (table x.old) result x.new }
 {
     let c = n - 1 - q;
@@ -155,7 +155,7 @@ pub fn join_stages(
     kept: &[bool; 32],
     x: &mut [f64; 1024],
 ) -> bool
-    requires { (n ≤ 32) × IsTable t.now × IsVector a.now × IsMask kept.now × IsTable x.old }
+    requires { n ≤ 32 }
     ensures { StagesJoin n (table t.now) (vector a.now) (marked kept.now) (table x.old) n result x.new }
 {
     let mut ok = true;

@@ -1,10 +1,8 @@
 -- The lines as the pieces that the writers write, one after another.
 use mathlib.Core.Path.{◌≡◌, refl}
 use mathlib.Core.List.{List, [], ◌∷◌, ◌++◌, append_assoc}
-use Prim.Native.Nat.{ℕ, suc, ◌+◌, ◌*◌, ◌≤◌, ◌<◌}
-use native.Mathlib.Nat.{suc-mul, mul-le-mul_right}
+use Prim.Native.Nat.{ℕ, suc, ◌+◌}
 use native.Mathlib.Numerals.{add-one}
-use native.Mathlib.Omega.{arith}
 use lib.Ieee.{Float, binary64, to_bits}
 use Rattle.buffer.specs.Pasted.{Written}
 use Rattle.digits.proofs.Digits.{field}
@@ -38,7 +36,3 @@ row-begun x i at bytes = rw (row-none x i) (written_nothing at bytes)
 
 pub table-begun : (x : ℕ → ℕ → Float) (n at : ℕ) (bytes : List ℕ) → Written (table_lines x n 0) at bytes bytes at
 table-begun x n at bytes = rw (table_none x n) (written_nothing at bytes)
-
--- Row i of n rows of n places ends within them.
-pub row_ends : (i n : ℕ) → i < n → i * n + n ≤ n * n
-row_ends i n h = omega (arith, suc-mul i n, mul-le-mul_right n h)

@@ -7,6 +7,7 @@ ghost use Rattle.definitions.specs.Dwell.{entry_line, row_lines, table_lines};
 ghost use Rattle.buffer.specs.Pasted.{Room, Written};
 
 // Row and column are numbered from 1 here.
+#[tactic(auto, unfolding(definitions::specs::Dwell::entry_line, definitions::specs::Dwell::text))]
 fn put_entry(row: usize, column: usize, x: f64, at: usize, out: &mut [u8]) -> usize
     requires { Room (entry_line row column x) at out.old }
     ensures { Written (entry_line row column x) at out.old out.new result }
@@ -25,10 +26,8 @@ fn put_row(i: usize, n: usize, answer: &[f64], at: usize, out: &mut [u8]) -> usi
 {
     let first = i * n;
     let mut next = at;
-    let mut j = 0;
-    while j < n {
+    for j in 0..n {
         next = put_entry(i + 1, j + 1, answer[first + j], next, out);
-        j += 1;
     }
     next
 }
@@ -39,10 +38,8 @@ pub fn put_table(n: usize, answer: &[f64], at: usize, out: &mut [u8]) -> usize
     ensures { Written (table_lines (place n answer.now) n n) at out.old out.new result }
 {
     let mut next = at;
-    let mut i = 0;
-    while i < n {
+    for i in 0..n {
         next = put_row(i, n, answer, next, out);
-        i += 1;
     }
     next
 }

@@ -1,35 +1,33 @@
 // The stages of a sheet of reading 1 that take part in its steps, as a system of their own (document 02, U3).
 #![tactic(auto)]
 
-ghost use Rattle.std.specs.Prelude.{◌≡◌, length};
 ghost use Rattle.definitions.specs.Sheet.{takes_part};
-ghost use Rattle.tables.specs.RowMajor.{IsTable};
-ghost use Rattle.compact.specs.Listing.{IsMask, MaskOf};
-ghost use Rattle.shape.specs.Square.{Square};
+ghost use Rattle.compact.specs.Listing.{MaskOf};
 ghost use Rattle.live.specs.LivePacked.{LivePacked};
 
+use compact::Stages;
+use shape::sheets::Sheet;
+
 // Marks the stages that are not idle; the places past the last stage keep what they hold.
-fn live_stages(n: usize, sheet: &[f64], live: &mut [bool; 32])
-    requires { Square n sheet.now × IsMask live.old }
-    ensures { MaskOf (takes_part 1 n sheet.now) n live.new }
+fn live_stages(sheet: Sheet<'_>, live: &mut [bool; 32])
+    ensures { MaskOf (takes_part 1 sheet.entry.n sheet.entry.numbers.now) sheet.entry.n live.new }
 {
-    for i in 0..n {
-        live[i] = !idle::is_idle(n, i, sheet);
+    for i in 0..sheet.n {
+        live[i] = !idle::is_idle(i, sheet);
     }
 }
 
-// The sizes and leaving rates of the stages that are not idle, packed in s, and the list of these stages. The
-// result is their count; later places of the list and other places of s are left open.
-pub fn pack(n: usize, sheet: &[f64], stages: &mut [usize; 32], s: &mut [f64; 1024]) -> usize
-    requires { Square n sheet.now × (length stages.old ≡ 32) × IsTable s.old }
-    ensures { LivePacked n sheet.now result stages.new s.new }
+// The list of the stages that are not idle, and their sizes and leaving rates, packed in s; other places of s are left
+// open.
+pub fn pack(sheet: Sheet<'_>, s: &mut [f64; 1024]) -> Stages
+    ensures { LivePacked sheet.entry.n sheet.entry.numbers.now result.count result.places s.new }
 {
     let mut live = [false; 32];
     let mut t = [0.0; 1024];
-    live_stages(n, sheet, &mut live);
-    let r = compact::list(n, &live, stages);
-    loading::sizes(n, sheet, &mut t);
-    loading::rates(n, sheet, &mut t);
-    compact::pack(r, stages, &t, s);
-    r
+    live_stages(sheet, &mut live);
+    let stages = Stages::list(sheet.n, &live);
+    loading::sizes(sheet, &mut t);
+    loading::rates(sheet, &mut t);
+    stages.pack(&t, s);
+    stages
 }

@@ -3,10 +3,12 @@
 #![tactic(auto)]
 
 ghost use Rattle.std.specs.Prelude.{◌≤◌};
-ghost use Rattle.tables.specs.RowMajor.{IsTable, table};
-ghost use Rattle.tables.specs.Vectors.{IsVector, vector};
+ghost use Rattle.tables.specs.RowMajor.{table};
+ghost use Rattle.tables.specs.Vectors.{vector};
 ghost use Rattle.ratios.specs.Ratios.{RatiosBefore};
 ghost use Rattle.margins.specs.MarginsTable.{KeptTable, MarginsTable};
+
+use compact::Stages;
 
 // The kept stages go through the engine; true if every step on the way is in range. With none kept there
 // is no step to take.
@@ -19,20 +21,19 @@ fn solve_kept(
     kept: &[bool; 32],
     x: &mut [f64; 1024],
 ) -> bool
-    requires { (n ≤ 32) × IsTable t.now × IsVector d.now × RatiosBefore n (table t.now) (vector d.now) n a.now k.now kept.now × IsTable x.old }
+    requires { (n ≤ 32) × RatiosBefore n (table t.now) (vector d.now) n a.now k.now kept.now }
     ensures { KeptTable n (table t.now) (vector d.now) result x.new }
 {
-    let mut stages = [0; 32];
     let mut s = [0.0; 1024];
     let mut y = [0.0; 1024];
-    let r = compact::list(n, kept, &mut stages);
-    let scaled = kept::system(n, r, &stages, t, d, a, k, kept, &mut s);
+    let stages = Stages::list(n, kept);
+    let scaled = kept::system(n, &stages, t, d, a, k, kept, &mut s);
     let none = [0.0; 0];
-    if !elimination::solve(r, &none, &mut s, &mut y) {
+    if !elimination::solve(stages.count, &none, &mut s, &mut y) {
         return false;
     }
-    let back = way_back::back(r, &stages, k, &mut y);
-    compact::unpack(r, &stages, &y, x);
+    let back = way_back::back(&stages, k, &mut y);
+    stages.unpack(&y, x);
     scaled & back
 }
 
@@ -40,7 +41,7 @@ fn solve_kept(
 // What x holds before does not matter; afterwards it is left open outside n × n, and everywhere where a
 // step is not in range.
 pub fn solve_margins(n: usize, t: &[f64; 1024], d: &[f64; 32], x: &mut [f64; 1024]) -> bool
-    requires { (n ≤ 32) × IsTable t.now × IsVector d.now × IsTable x.old }
+    requires { n ≤ 32 }
     ensures { MarginsTable n (table t.now) (vector d.now) result x.new }
 {
     let mut a = [0.0; 32];

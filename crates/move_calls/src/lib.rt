@@ -18,5 +18,5 @@ pub fn move_sheet(
     ensures { MoveCall reading n e sheet.now k area.old area.new unit.old unit.new row.new column.new result }
 {
     let moved = moving::move_sheet(reading, n, e, sheet, k, area);
-    out_places::hand_moved(moved, unit, row, column)
+    out_places::hand(moved, unit, row, column)
 }

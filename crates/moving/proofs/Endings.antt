@@ -19,7 +19,7 @@ use Rattle.exact.proofs.Cases.{by_bool}
 use Rattle.definitions.specs.Numbers.{◌⊗◌, finite}
 use Rattle.definitions.specs.Sheet.{sheet_rows, place}
 use Rattle.definitions.specs.Questions.{pass, refuse, ask, exponent_in_range, large_enough}
-use Rattle.definitions.specs.Services.{refused, filled}
+use Rattle.definitions.specs.Services.{filled}
 use Rattle.definitions.specs.Moving.{times_power, question15, question17, has_room, rates_have_room, question16, move_input, move_questions, move_answer, moved_sheet, moved_area}
 use Rattle.rounding.specs.Scaling.{power}
 use Rattle.rounding.proofs.TimesPower.{product_with_power}
@@ -29,9 +29,10 @@ use Rattle.steps.proofs.QuestionLaws.{exponent_small, number-finite, number_larg
 use Rattle.shape.specs.Square.{Square, WholeSheet}
 use Rattle.shape.proofs.Square.{is_square, every_number}
 use Rattle.shape.proofs.ShapeQuestions.{move_input-passed, move_unit}
-use Rattle.answers.specs.declared.Moved.{Moved}
-use Rattle.answers.specs.declared.Moved.TheVariants as moved
-use Rattle.answers.specs.Answers.{moved_given}
+use Rattle.std.specs.Prelude.{Result, Ok, Err}
+use Rattle.answers.specs.declared.Question.TheVariants as question
+use Rattle.answers.specs.declared.Refusal.{Refusal}
+use Rattle.answers.specs.Answers.{number, of_call}
 use Rattle.moving.specs.Promises.{have_room, Movable, MoveDone}
 
 -- ---- e + k fits
@@ -86,10 +87,10 @@ both_written new others before {after} {part} {at} count first second =
 
 -- ---- the service
 module _ (reading n : ℕ) (e : ℤ) (sheet : List Float) (k : ℤ) (before : List Float) where
-  pub input_refused : {number row column : ℕ} → move_input reading n e sheet (length before) ≡ refuse number row column
-      → MoveDone reading n e sheet k before before (moved.Refused number row column)
+  pub input_refused : {r : Result ℤ Refusal} {refusal : Refusal} → r ≡ Err refusal → move_input reading n e sheet (length before) ≡ refuse (number refusal.question) refusal.row refusal.column
+      → MoveDone reading n e sheet k before before r
   unfolding move_questions move_answer moved_area
-  input_refused is = record { answered = rw is; area = rw is }
+  input_refused e is = record { answered = rw (e, is); area = rw is }
 
   module _ (input : move_input reading n e sheet (length before) ≡ pass) where
     whole : WholeSheet reading n sheet
@@ -131,23 +132,23 @@ module _ (reading n : ℕ) (e : ℤ) (sheet : List Float) (k : ℤ) (before : Li
     pub its_unit : T (exponent_in_range e)
     its_unit = move_unit reading n e sheet (length before) input
 
-    pub exponent_refused : {r : Moved} → moved_given r ≡ refused 15 0 0 → exponent_in_range k ≡ false → MoveDone reading n e sheet k before before r
+    pub exponent_refused : {r : Result ℤ Refusal} → r ≡ Err (of_call question.Exponent) → exponent_in_range k ≡ false → MoveDone reading n e sheet k before before r
     unfolding move_questions move_answer moved_area question15
-    exponent_refused told out = record { answered = told ∙ rw (input, out); area = rw (input, out) }
+    exponent_refused is out = record { answered = rw (is, input, out); area = rw (input, out) }
 
     module _ (inside : exponent_in_range k ≡ true) where
-      pub unit_refused : {r : Moved} → moved_given r ≡ refused 17 0 0 → exponent_in_range (e +ℤ k) ≡ false → MoveDone reading n e sheet k before before r
+      pub unit_refused : {r : Result ℤ Refusal} → r ≡ Err (of_call question.MovedUnit) → exponent_in_range (e +ℤ k) ≡ false → MoveDone reading n e sheet k before before r
       unfolding move_questions move_answer moved_area question15 question17
-      unit_refused told out = record { answered = told ∙ rw (input, inside, out); area = rw (input, inside, out) }
+      unit_refused is out = record { answered = rw (is, input, inside, out); area = rw (input, inside, out) }
 
       module _ (unit : exponent_in_range (e +ℤ k) ≡ true) {after : List Float} {ok : Bool} (room : ok ≡ have_room k (take (n * n) sheet)) (written : after ≡ filled (ask ok 16 0 0) (map (λ number. times_power k number) (take (n * n) sheet) ++ drop (n * n) sheet) before) where
-        pub room_refused : {r : Moved} → moved_given r ≡ refused 16 0 0 → ok ≡ false → MoveDone reading n e sheet k before after r
+        pub room_refused : {r : Result ℤ Refusal} → r ≡ Err (of_call question.RoomToMove) → ok ≡ false → MoveDone reading n e sheet k before after r
         unfolding move_questions move_answer moved_area question15 question17 question16
-        room_refused told none =
+        room_refused is none =
             let asked : rates_have_room n k sheet ≡ false = sym (room ∙ rates_room) ∙ none in
-            record { answered = told ∙ rw (input, inside, unit, asked); area = rw (input, inside, unit, asked) (rw none at written) }
+            record { answered = rw (is, input, inside, unit, asked); area = rw (input, inside, unit, asked) (rw none at written) }
 
-        pub moved_given_lem : ok ≡ true → MoveDone reading n e sheet k before after (moved.Sheet (e +ℤ k))
+        pub moved_given_lem : ok ≡ true → MoveDone reading n e sheet k before after (Ok (e +ℤ k))
         unfolding move_questions move_answer moved_area moved_sheet question15 question17 question16
         moved_given_lem some =
             let asked : rates_have_room n k sheet ≡ true = sym (room ∙ rates_room) ∙ some in

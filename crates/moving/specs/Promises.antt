@@ -1,16 +1,16 @@
 -- What moving a sheet promises (document 02, U4 and U5), and what its numbers are known to be before question 16.
-use Rattle.std.specs.Prelude.{Bool, List, ◌≡◌, ℕ, ◌<◌, T, ℤ, length, get_or, Float}
+use Rattle.std.specs.Prelude.{Bool, List, Result, ◌≡◌, ℕ, ◌<◌, T, ℤ, length, get_or, Float}
 use Rattle.std.specs.Float.{nan}
 use Rattle.definitions.specs.Numbers.{finite, all}
 use Rattle.definitions.specs.Questions.{exponent_in_range, large_enough}
 use Rattle.definitions.specs.Moving.{times_power, has_room, move_answer, moved_area}
 use Rattle.rounding.specs.Scaling.{power}
-use Rattle.answers.specs.declared.Moved.{Moved}
-use Rattle.answers.specs.Answers.{moved_given}
+use Rattle.answers.specs.declared.Refusal.{Refusal}
+use Rattle.answers.specs.Answers.{told}
 
 -- The answer r, and each place of the second area before and after.
-pub record MoveDone (reading n : ℕ) (e : ℤ) (sheet : List Float) (k : ℤ) (before after : List Float) (r : Moved) : Type 0 where
-  pub answered : moved_given r ≡ move_answer reading n e sheet k (length before)
+pub record MoveDone (reading n : ℕ) (e : ℤ) (sheet : List Float) (k : ℤ) (before after : List Float) (r : Result ℤ Refusal) : Type 0 where
+  pub answered : told r ≡ move_answer reading n e sheet k (length before)
   pub area : after ≡ moved_area reading n e sheet k before
 
 -- Question 16 of some numbers.

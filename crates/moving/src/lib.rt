@@ -6,26 +6,22 @@ ghost use Rattle.std.specs.Prelude.{◌+◌, ◌≤◌, map, ◌++◌, ◌≡◌
 ghost use Rattle.std.specs.Float.{nan};
 ghost use Rattle.definitions.specs.Numbers.{◌⊗◌, all};
 ghost use Rattle.definitions.specs.Questions.{pass, ask};
-ghost use Rattle.definitions.specs.Services as services;
 ghost use Rattle.definitions.specs.Services.{filled};
 ghost use Rattle.definitions.specs.Moving.{times_power};
-ghost use Rattle.answers.specs.Answers.{moved_given};
 ghost use Rattle.rounding.specs.Scaling.{power};
 ghost use Rattle.rounding.specs.ResultRange.{size_within};
 ghost use Rattle.moving.specs.Promises.{have_room, Movable, MoveDone};
 
-use answers::Moved;
-use shape::{rates_of, weights_of};
+use answers::{Question, Refusal};
+use shape::sheets::Sheet;
 
 // Whether every number is zero, or of a size from `least` to `most`.
 fn sizes_within(least: f64, most: f64, numbers: &[f64]) -> bool
     ensures { result ≡ all (λ at. size_within least most (get_or numbers.now at nan)) 0 (length numbers.now) }
 {
     let mut good = true;
-    let mut at = 0;
-    while at < numbers.len() {
-        good = good & rounding::size_within(least, most, numbers[at]);
-        at += 1;
+    for number in numbers {
+        good = good & rounding::size_within(least, most, *number);
     }
     good
 }
@@ -51,10 +47,8 @@ fn times_power(power: f64, numbers: &[f64], area: &mut [f64])
     requires { length numbers.now ≤ length area.old }
     ensures { area.new ≡ filled pass (map (λ number. number ⊗ power) numbers.now) area.old }
 {
-    let mut i = 0;
-    while i < numbers.len() {
-        area[i] = numbers[i] * power;
-        i += 1;
+    for (i, number) in numbers.iter().enumerate() {
+        area[i] = *number * power;
     }
 }
 
@@ -63,11 +57,8 @@ fn copy(weights: &[f64], area: &mut [f64])
     requires { length weights.now ≤ length area.old }
     ensures { area.new ≡ filled pass weights.now area.old }
 {
-    let mut i = 0;
-    while i < weights.len() {
-        area[i] = weights[i];
-        i += 1;
-    }
+    let count = weights.len();
+    area[..count].copy_from_slice(weights);
 }
 
 // Question 16 of the rates; where it passes, the moved rates and then the weights, and elsewhere nothing is written.
@@ -86,17 +77,6 @@ fn move_numbers(k: i64, rates: &[f64], weights: &[f64], area: &mut [f64]) -> boo
     false
 }
 
-// The last three questions have no row and no column.
-fn refused(number: usize) -> Moved
-    ensures { moved_given result ≡ services.refused number 0 0 }
-{
-    Moved::Refused {
-        number,
-        row: 0,
-        column: 0,
-    }
-}
-
 // The sheet with its rates times 2^k, in the first places of the area, and its unit.
 pub fn move_sheet(
     reading: usize,
@@ -105,26 +85,20 @@ pub fn move_sheet(
     sheet: &[f64],
     k: i64,
     area: &mut [f64],
-) -> Moved
+) -> Result<i64, Refusal>
     ensures { MoveDone reading n e sheet.now k area.old area.new result }
 {
-    let asked = sheet::move_input(reading, n, e, sheet, area.len());
-    if asked.number != 0 {
-        return Moved::Refused {
-            number: asked.number,
-            row: asked.row,
-            column: asked.column,
-        };
-    }
+    sheet::move_input(reading, n, e, sheet, area.len())?;
     if !((-512 <= k) & (k <= 512)) {
-        return refused(15);
+        return Err(Question::Exponent.into());
     }
     let unit = e + k;
     if !((-512 <= unit) & (unit <= 512)) {
-        return refused(17);
+        return Err(Question::MovedUnit.into());
     }
-    if !move_numbers(k, rates_of(n, sheet), weights_of(n, sheet), area) {
-        return refused(16);
+    let sheet = Sheet { n, numbers: sheet };
+    if !move_numbers(k, sheet.rates(), sheet.weights(), area) {
+        return Err(Question::RoomToMove.into());
     }
-    Moved::Sheet { e: unit }
+    Ok(unit)
 }

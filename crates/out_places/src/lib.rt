@@ -3,135 +3,60 @@
 // over goes to the other places, which a refused call leaves as they were.
 #![tactic(auto)]
 
-ghost use Rattle.answers.specs.Answers.{filled_given, entry_given, head_given, saved_given, moved_given};
+ghost use Rattle.std.specs.Prelude.{◌≡◌};
+ghost use Rattle.answers.specs.Answers.{number, told, head_told};
 ghost use Rattle.out_places.specs.OutPlaces.{ValueHanded, HeadHanded};
 
-use answers::{Entry, Filled, Loaded, Moved, Saved};
+use answers::{Head, Refusal};
 
-pub fn hand_allowance(
-    told: Filled,
-    allowance: &mut usize,
+fn tell(refusal: Refusal, row: &mut usize, column: &mut usize) -> usize
+    ensures { (row.new ≡ refusal.row) × (column.new ≡ refusal.column) × (result ≡ number refusal.question) }
+{
+    *row = refusal.row;
+    *column = refusal.column;
+    refusal.question.into()
+}
+
+// An allowance, a number of seconds, a length or a unit.
+pub fn hand<T: Copy>(
+    answer: Result<T, Refusal>,
+    value: &mut T,
     row: &mut usize,
     column: &mut usize,
 ) -> usize
-    ensures { ValueHanded (filled_given told) allowance.old allowance.new row.new column.new result }
+    ensures { ValueHanded (told answer) value.old value.new row.new column.new result }
 {
-    match told {
-        Filled::Allowed { allowance: allowed } => {
-            *allowance = allowed;
+    match answer {
+        Ok(given) => {
+            *value = given;
             *row = 0;
             *column = 0;
             0
         }
-        Filled::Refused {
-            number,
-            row: i,
-            column: j,
-        } => {
-            *row = i;
-            *column = j;
-            number
-        }
+        Err(refusal) => tell(refusal, row, column),
     }
 }
 
-pub fn hand_seconds(told: Entry, seconds: &mut f64, row: &mut usize, column: &mut usize) -> usize
-    ensures { ValueHanded (entry_given told) seconds.old seconds.new row.new column.new result }
-{
-    match told {
-        Entry::Seconds { value } => {
-            *seconds = value;
-            *row = 0;
-            *column = 0;
-            0
-        }
-        Entry::Refused {
-            number,
-            row: i,
-            column: j,
-        } => {
-            *row = i;
-            *column = j;
-            number
-        }
-    }
-}
-
-pub fn hand_length(told: Saved, length: &mut usize, row: &mut usize, column: &mut usize) -> usize
-    ensures { ValueHanded (saved_given told) length.old length.new row.new column.new result }
-{
-    match told {
-        Saved::File { length: bytes } => {
-            *length = bytes;
-            *row = 0;
-            *column = 0;
-            0
-        }
-        Saved::Refused {
-            number,
-            row: i,
-            column: j,
-        } => {
-            *row = i;
-            *column = j;
-            number
-        }
-    }
-}
-
+// What a sheet file says of its sheet.
 pub fn hand_head(
-    told: Loaded,
+    answer: Result<Head, Refusal>,
     reading: &mut usize,
     n: &mut usize,
     e: &mut i64,
     row: &mut usize,
     column: &mut usize,
 ) -> usize
-    ensures { HeadHanded (head_given told) reading.old reading.new n.old n.new e.old e.new row.new column.new result }
+    ensures { HeadHanded (head_told answer) reading.old reading.new n.old n.new e.old e.new row.new column.new result }
 {
-    match told {
-        Loaded::Sheet {
-            reading: read,
-            n: stages,
-            e: unit,
-        } => {
-            *reading = read;
-            *n = stages;
-            *e = unit;
+    match answer {
+        Ok(head) => {
+            *reading = head.reading;
+            *n = head.n;
+            *e = head.e;
             *row = 0;
             *column = 0;
             0
         }
-        Loaded::Refused {
-            number,
-            row: due,
-            column: j,
-        } => {
-            *row = due;
-            *column = j;
-            number
-        }
-    }
-}
-
-pub fn hand_moved(told: Moved, e: &mut i64, row: &mut usize, column: &mut usize) -> usize
-    ensures { ValueHanded (moved_given told) e.old e.new row.new column.new result }
-{
-    match told {
-        Moved::Sheet { e: moved } => {
-            *e = moved;
-            *row = 0;
-            *column = 0;
-            0
-        }
-        Moved::Refused {
-            number,
-            row: at_row,
-            column: at_column,
-        } => {
-            *row = at_row;
-            *column = at_column;
-            number
-        }
+        Err(refused) => tell(refused, row, column),
     }
 }

@@ -8,7 +8,7 @@ use native.Mathlib.Decide.{dec_lt}
 use native.Mathlib.Omega.{arith}
 use borrow.Author.Tests.{leb-true}
 use lib.Dec.{leb}
-use lib.ListN.{length, drop, get_or, length-append, length-drop, length-map, get_or-append, get_or-map}
+use lib.ListN.{length, drop, get_or, length-append, length-drop, length-map, get_or-append}
 use lib.Ieee.{binary64, of_bits}
 use lib.Ieee.Bits.{is_true}
 use lib.Ieee.Positive.{first_pos}
@@ -225,6 +225,9 @@ module _ (bytes : List ℕ) (n : ℕ) (file : SheetFile bytes n) where
 
   -- As the code finds it: in a row behind the row's number, and among the weights without one.
   module _ (k : ℕ) (h : k < length (file_words bytes)) where
+    pub word_inside : 12 + record_length bytes + 8 * (k + k / n) ≤ length bytes
+    word_inside = omega (arith, (file-word k h).held)
+
     pub row_word : k / n < n → WordAt (file_words bytes) bytes k (12 + record_length bytes + 8 * (k + k / n) + 2)
     row_word row = at_place (omega (arith, row-width n (1 + k / n) (omega arith))) (file-word k h)
 
@@ -235,7 +238,3 @@ module _ (bytes : List ℕ) (n : ℕ) (file : SheetFile bytes n) where
 pub as_many_words : (bytes : List ℕ) → length (file_numbers bytes) ≡ length (file_words bytes)
 unfolding file_numbers
 as_many_words bytes = length-map (file_words bytes) (λ word. of_bits binary64 word)
-
-pub file-number : (bytes : List ℕ) (k : ℕ) → of_bits binary64 (get_or (file_words bytes) k 0) ≡ get_or (file_numbers bytes) k (of_bits binary64 0)
-unfolding file_numbers
-file-number bytes k = sym (get_or-map (λ word. of_bits binary64 word) (file_words bytes) k 0)

@@ -4,7 +4,7 @@
 
 ghost use Rattle.std.specs.Prelude.{◌≡◌, suc, ◌-◌, ◌≤◌, ◌<◌, length};
 ghost use Rattle.definitions.specs.LeavingRates.{none, later_sizes, products_in_range, pivot_in_range};
-ghost use Rattle.tables.specs.RowMajor.{IsTable, table};
+ghost use Rattle.tables.specs.RowMajor.{table};
 ghost use Rattle.passes.specs.Weights.{weights_in, Enough};
 ghost use Rattle.passes.specs.Multipliers.{system_in};
 ghost use Rattle.passes.specs.Stages.{IsStage};
@@ -20,7 +20,8 @@ pub struct Stage {
 }
 
 // A stage that has begun, and whether its steps so far are in range.
-#[derive(Drop)]
+// Contracts promise the stage also where a step is not in range, so it is no Option.
+#[derive(Clone, Copy)]
 pub struct Begun {
     pub stage: Stage,
     pub ok: bool,
@@ -28,7 +29,7 @@ pub struct Begun {
 
 // The sizes of row k from the last column back to the diagonal.
 fn later_sizes(r: usize, k: usize, t: &[f64; 1024]) -> f64
-    requires { (k < r) × (r ≤ 32) × IsTable t.now }
+    requires { (k < r) × (r ≤ 32) }
     ensures { result ≡ later_sizes r (system_in none (table t.now)) k }
 {
     let mut sum = 0.0;
@@ -41,7 +42,7 @@ fn later_sizes(r: usize, k: usize, t: &[f64; 1024]) -> f64
 
 // The same with each size times the weight of its column.
 fn later_products(r: usize, k: usize, weights: &[f64], t: &[f64; 1024]) -> Sum
-    requires { (k < r) × (r ≤ 32) × (r ≤ length weights.now) × IsTable t.now }
+    requires { (k < r) × (r ≤ 32) × (r ≤ length weights.now) }
     ensures { let w = weights_in weights.now in let f = table t.now in (result.value ≡ later_sizes r (system_in w f) k) × (result.ok ≡ products_in_range w (f k) (suc k) (r - suc k)) }
 {
     let mut sum = 0.0;
@@ -61,7 +62,7 @@ fn later_products(r: usize, k: usize, weights: &[f64], t: &[f64; 1024]) -> Sum
 // Stage k's running sum s_k and its pivot, for which s_k is added last, and whether the pivot's steps are in range.
 // Without weights they are where it is finite.
 pub fn begin(r: usize, k: usize, weights: &[f64], t: &[f64; 1024]) -> Begun
-    requires { (k < r) × (r ≤ 32) × Enough r weights.now × IsTable t.now }
+    requires { (k < r) × (r ≤ 32) × Enough r weights.now }
     ensures { let w = weights_in weights.now in let f = table t.now in IsStage w r k f result.stage.s result.stage.p × (result.ok ≡ pivot_in_range r (system_in w f) k) }
 {
     let s = row::get(k, k, t);

@@ -1,13 +1,15 @@
 // Questions 6, 7 and 8 of document 01 with the first bad place.
 #![tactic(auto)]
 
-ghost use Rattle.std.specs.Prelude.{◌<◌, ◌≡◌};
+ghost use Rattle.std.specs.Prelude.{◌<◌, ◌≡◌, ℕ, Bool, Float};
 ghost use Rattle.definitions.specs.Sheet.{sheet_rows, place};
+ghost use Rattle.definitions.specs.Questions.{large_enough, question6, question7, question8};
+ghost use Rattle.answers.specs.Answers.{number};
 ghost use Rattle.answers.specs.Outcome.{ComesTo};
-ghost use Rattle.shape.specs.Square.{WholeSheet};
-ghost use Rattle.places.specs.PlaceQuestions.{sign_at, passes, ask_places};
+ghost use Rattle.places.specs.PlaceQuestions.{sign_at, ask_places, Computes};
 
-use answers::Asked;
+use answers::{Question, Refusal};
+use shape::sheets::Whole;
 
 // Question 7 of the number x at row i and column j; the weights stand in row n.
 fn right_sign(reading: usize, n: usize, i: usize, j: usize, x: f64) -> bool
@@ -25,50 +27,67 @@ fn right_sign(reading: usize, n: usize, i: usize, j: usize, x: f64) -> bool
     0.0 < x
 }
 
-// Question 6, 7 or 8 of the number x at row i and column j: 2.2250738585072014e-308 is 2^-1022.
-fn place_passes(question: usize, reading: usize, n: usize, i: usize, j: usize, x: f64) -> bool
-    ensures { result ≡ passes question reading n i j x }
+// Question 8 of the number x: 2.2250738585072014e-308 is 2^-1022.
+fn is_large_enough(x: f64) -> bool
+    ensures { result ≡ large_enough x }
 {
-    if question == 6 {
-        return rounding::is_finite(x);
-    }
-    if question == 7 {
-        return right_sign(reading, n, i, j, x);
-    }
     (x == 0.0) | (2.2250738585072014e-308 <= x) | (x <= -2.2250738585072014e-308)
 }
 
 // The number at row i and column j, that of the weights included.
-fn number_in_row(reading: usize, n: usize, i: usize, j: usize, sheet: &[f64]) -> f64
-    requires { WholeSheet reading n sheet.now × (i < sheet_rows reading n) × (j < n) }
-    ensures { result ≡ place n sheet.now i j }
+fn number_in_row(i: usize, j: usize, whole: Whole<'_>) -> f64
+    requires { (i < sheet_rows whole.reading whole.sheet.n) × (j < whole.sheet.n) }
+    ensures { result ≡ place whole.entry.sheet.n whole.entry.sheet.numbers.now i j }
 {
-    sheet[i * n + j]
+    let sheet = whole.sheet;
+    sheet.numbers[i * sheet.n + j]
 }
 
-// Question 6, 7 or 8 of every place, row by row, that of the weights last: the search stops at the first bad place.
-pub fn ask_places(question: usize, reading: usize, n: usize, sheet: &[f64]) -> Asked
-    requires { WholeSheet reading n sheet.now × (0 < question) }
-    ensures { ComesTo (ask_places question reading n sheet.now) result.number result.row result.column }
+// One question of every place, row by row, that of the weights last: the search stops at the first bad place.
+fn ask_places<F: Fn(usize, usize, f64) -> bool>(
+    question: Question,
+    passes: F,
+    whole: Whole<'_>,
+) -> Result<(), Refusal>
+    requires { F.IsAlwaysCallable passes }
+    ensures { let sheet = whole.entry.sheet in (good : ℕ → ℕ → Float → Bool) → Computes (F.post passes) good → ComesTo (ask_places good (number question) whole.entry.reading sheet.n sheet.numbers.now) result }
 {
-    let mut answer = Asked {
-        number: 0,
-        row: 0,
-        column: 0,
-    };
-    let rows = counts::rows(reading, n);
-    'search: for i in 0..rows {
-        for j in 0..n {
-            let x = number_in_row(reading, n, i, j, sheet);
-            if !place_passes(question, reading, n, i, j, x) {
-                answer = Asked {
-                    number: question,
+    for i in 0..counts::rows(whole.reading, whole.sheet.n) {
+        for j in 0..whole.sheet.n {
+            let x = number_in_row(i, j, whole);
+            if !passes(i, j, x) {
+                return Err(Refusal {
+                    question,
                     row: i + 1,
                     column: j + 1,
-                };
-                break 'search;
+                });
             }
         }
     }
-    answer
+    Ok(())
+}
+
+// Question 6 of every place.
+pub fn ask_finite(whole: Whole<'_>) -> Result<(), Refusal>
+    ensures { ComesTo (question6 whole.entry.reading whole.entry.sheet.n whole.entry.sheet.numbers.now) result }
+{
+    ask_places(Question::Finite, |_, _, x| rounding::is_finite(x), whole)
+}
+
+// Question 7.
+pub fn ask_signs(whole: Whole<'_>) -> Result<(), Refusal>
+    ensures { ComesTo (question7 whole.entry.reading whole.entry.sheet.n whole.entry.sheet.numbers.now) result }
+{
+    ask_places(
+        Question::Sign,
+        |i, j, x| right_sign(whole.reading, whole.sheet.n, i, j, x),
+        whole,
+    )
+}
+
+// Question 8.
+pub fn ask_sizes(whole: Whole<'_>) -> Result<(), Refusal>
+    ensures { ComesTo (question8 whole.entry.reading whole.entry.sheet.n whole.entry.sheet.numbers.now) result }
+{
+    ask_places(Question::Size, |_, _, x| is_large_enough(x), whole)
 }

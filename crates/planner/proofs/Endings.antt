@@ -21,8 +21,10 @@ use Rattle.accuracy.proofs.Same.{same_table}
 use Rattle.writing.proofs.AcceptedArea.{table_area_lem}
 use Rattle.steps.proofs.QuestionLaws.{never_both}
 use Rattle.steps.proofs.AcceptedCalls.{table-known, entry_known}
-use Rattle.answers.specs.declared.Filled.TheVariants as given-table
-use Rattle.answers.specs.declared.Entry.TheVariants as given-entry
+use Rattle.std.specs.Prelude.{Result, Ok, Err}
+use Rattle.answers.specs.declared.Question.TheVariants as question
+use Rattle.answers.specs.declared.Refusal.{Refusal}
+use Rattle.answers.specs.Answers.{number, of_call, told}
 use Rattle.readings.specs.Stepped.{Stepped}
 use Rattle.planner.specs.Promises.{TableDone, EntryDone}
 use Rattle.planner.proofs.Asked.{after_refusal, out_of_range, in_range_lem}
@@ -31,25 +33,25 @@ use Rattle.exact.proofs.Bools.{holds}
 module _ (reading n : ℕ) (e : ℤ) (sheet : List Float) where
   -- The whole table: a refusal, in range or not, and the table.
   module _ (before : List Float) where
-    refused_with : {number row column : ℕ} → table_questions reading n e sheet (length before) ≡ refuse number row column
-        → TableDone reading n e sheet before before (given-table.Refused number row column)
+    refused_with : {r : Result ℕ Refusal} {refusal : Refusal} → r ≡ Err refusal → table_questions reading n e sheet (length before) ≡ refuse (number refusal.question) refusal.row refusal.column
+        → TableDone reading n e sheet before before r
     unfolding table_answer table_area
-    refused_with is =
+    refused_with r is =
         record {
-          answered = ap (λ q. answer q (allowance reading n)) (sym is);
+          answered = ap told r ∙ ap (λ q. answer q (allowance reading n)) (sym is);
           area = ap (λ q. filled q (table reading n sheet) before) (sym is);
           accurate = λ p. absurd (never_both is p);
         }
 
-    pub table_refused : {number row column : ℕ} → table_input reading n e sheet (length before) ≡ refuse number row column
-        → TableDone reading n e sheet before before (given-table.Refused number row column)
+    pub table_refused : {r : Result ℕ Refusal} {refusal : Refusal} → r ≡ Err refusal → table_input reading n e sheet (length before) ≡ refuse (number refusal.question) refusal.row refusal.column
+        → TableDone reading n e sheet before before r
     unfolding table_questions
-    table_refused is = refused_with (after_refusal (question10 reading n sheet) is)
+    table_refused r is = refused_with r (after_refusal (question10 reading n sheet) is)
 
     module _ (passed : table_input reading n e sheet (length before) ≡ pass) {x : List Float} {ok : Bool} (stepped : Stepped reading n sheet ok x) where
-      pub table_out_of_range : ok ≡ false → TableDone reading n e sheet before before (given-table.Refused 10 0 0)
+      pub table_out_of_range : {r : Result ℕ Refusal} → r ≡ Err (of_call question.InRange) → ok ≡ false → TableDone reading n e sheet before before r
       unfolding table_questions
-      table_out_of_range bad = refused_with (out_of_range reading n sheet passed stepped.range bad)
+      table_out_of_range r bad = refused_with r (out_of_range reading n sheet passed stepped.range bad)
 
       table_accurate : Binary64 sheet → ok ≡ true → Accurate n (takes_part reading n sheet) (allowance reading n) (matrix reading n sheet) (entry reading n sheet)
       table_accurate fit good =
@@ -57,7 +59,7 @@ module _ (reading n : ℕ) (e : ℤ) (sheet : List Float) where
 
       pub table_given : {after : List Float} {allowed : ℕ} → Binary64 sheet → ok ≡ true
           → after ≡ rows (working.table x) n n ++ drop (n * n) before → allowed ≡ allowance reading n
-          → TableDone reading n e sheet before after (given-table.Allowed allowed)
+          → TableDone reading n e sheet before after (Ok allowed)
       unfolding table_answer table_area table_questions table
       table_given {after} {allowed} fit good written a =
           let all-Asked = in_range_lem reading n sheet passed stepped.range good in
@@ -70,30 +72,30 @@ module _ (reading n : ℕ) (e : ℤ) (sheet : List Float) where
 
   -- One entry in the same three ways.
   module _ (i j : ℕ) where
-    entry_refused_with : {number row column : ℕ} → entry_questions reading n e sheet i j ≡ refuse number row column
-        → EntryDone reading n e sheet i j (given-entry.Refused number row column)
+    entry_refused_with : {r : Result Float Refusal} {refusal : Refusal} → r ≡ Err refusal → entry_questions reading n e sheet i j ≡ refuse (number refusal.question) refusal.row refusal.column
+        → EntryDone reading n e sheet i j r
     unfolding entry_answer
-    entry_refused_with is =
+    entry_refused_with r is =
         record {
-          answered = ap (λ q. answer q (entry reading n sheet (i - 1) (j - 1))) (sym is);
+          answered = ap told r ∙ ap (λ q. answer q (entry reading n sheet (i - 1) (j - 1))) (sym is);
           accurate = λ p. absurd (never_both is p);
         }
 
-    pub entry_refused : {number row column : ℕ} → entry_input reading n e sheet i j ≡ refuse number row column
-        → EntryDone reading n e sheet i j (given-entry.Refused number row column)
+    pub entry_refused : {r : Result Float Refusal} {refusal : Refusal} → r ≡ Err refusal → entry_input reading n e sheet i j ≡ refuse (number refusal.question) refusal.row refusal.column
+        → EntryDone reading n e sheet i j r
     unfolding entry_questions
-    entry_refused is = entry_refused_with (after_refusal (question10 reading n sheet) is)
+    entry_refused r is = entry_refused_with r (after_refusal (question10 reading n sheet) is)
 
     module _ (passed : entry_input reading n e sheet i j ≡ pass) {x : List Float} {ok : Bool} (stepped : Stepped reading n sheet ok x) where
-      pub entry_out_of_range : ok ≡ false → EntryDone reading n e sheet i j (given-entry.Refused 10 0 0)
+      pub entry_out_of_range : {r : Result Float Refusal} → r ≡ Err (of_call question.InRange) → ok ≡ false → EntryDone reading n e sheet i j r
       unfolding entry_questions
-      entry_out_of_range bad = entry_refused_with (out_of_range reading n sheet passed stepped.range bad)
+      entry_out_of_range r bad = entry_refused_with r (out_of_range reading n sheet passed stepped.range bad)
 
       entry_accurate : Binary64 sheet → ok ≡ true → Accurate n (takes_part reading n sheet) (allowance reading n) (matrix reading n sheet) (entry reading n sheet)
       entry_accurate fit good =
           accurate_table reading n sheet fit (record { known = entry_known reading n e sheet i j passed; in_range_lem = holds (sym stepped.range ∙ good) })
 
-      pub entry_given_lem : {value : Float} → Binary64 sheet → ok ≡ true → value ≡ working.table x (i - 1) (j - 1) → EntryDone reading n e sheet i j (given-entry.Seconds value)
+      pub entry_given_lem : {value : Float} → Binary64 sheet → ok ≡ true → value ≡ working.table x (i - 1) (j - 1) → EntryDone reading n e sheet i j (Ok value)
       unfolding entry_answer entry_questions
       entry_given_lem fit good v =
           let stages = entry-input-passed reading n e sheet i j passed in

@@ -6,72 +6,73 @@ ghost use Rattle.std.specs.Prelude.{◌≡◌, length};
 ghost use Rattle.definitions.specs.Questions.{pass, table_input, entry_input};
 ghost use Rattle.planner.specs.Promises.{TableDone, EntryDone};
 
-use answers::{Entry, Filled};
+use answers::{Question, Refusal};
+use shape::sheets::Whole;
 use tables::row;
 
 // The whole table of a sheet that passed questions 1 to 9. Nothing is written before question 10 passes too.
-fn table_of_sheet(reading: usize, n: usize, e: i64, sheet: &[f64], answer: &mut [f64]) -> Filled
+fn table_of_sheet(
+    reading: usize,
+    n: usize,
+    e: i64,
+    sheet: &[f64],
+    answer: &mut [f64],
+) -> Result<usize, Refusal>
     requires { table_input reading n e sheet.now (length answer.old) ≡ pass }
     ensures { TableDone reading n e sheet.now answer.old answer.new result }
 {
     let mut x = [0.0; 1024];
-    if readings::steps(reading, n, sheet, &mut x) {
-        writing::write(n, &x, answer);
-        return Filled::Allowed {
-            allowance: allowance::allowance_of(reading, n),
-        };
+    if !readings::steps(Whole::new(reading, n, sheet), &mut x) {
+        return Err(Question::InRange.into());
     }
-    Filled::Refused {
-        number: 10,
-        row: 0,
-        column: 0,
-    }
+    writing::write(n, &x, answer);
+    Ok(allowance::allowance_of(reading, n))
 }
 
 // The whole table, row by row in the first n × n places of the answer area.
-pub fn whole_table(reading: usize, n: usize, e: i64, sheet: &[f64], answer: &mut [f64]) -> Filled
+pub fn whole_table(
+    reading: usize,
+    n: usize,
+    e: i64,
+    sheet: &[f64],
+    answer: &mut [f64],
+) -> Result<usize, Refusal>
     ensures { TableDone reading n e sheet.now answer.old answer.new result }
 {
-    let asked = sheet::table_input(reading, n, e, sheet, answer.len());
-    if asked.number != 0 {
-        return Filled::Refused {
-            number: asked.number,
-            row: asked.row,
-            column: asked.column,
-        };
-    }
+    sheet::table_input(reading, n, e, sheet, answer.len())?;
     table_of_sheet(reading, n, e, sheet, answer)
 }
 
 // Entry (i, j), counted from 1, of a sheet that passed questions 1 to 9.
-fn entry_of_sheet(reading: usize, n: usize, e: i64, sheet: &[f64], i: usize, j: usize) -> Entry
+fn entry_of_sheet(
+    reading: usize,
+    n: usize,
+    e: i64,
+    sheet: &[f64],
+    i: usize,
+    j: usize,
+) -> Result<f64, Refusal>
     requires { entry_input reading n e sheet.now i j ≡ pass }
     ensures { EntryDone reading n e sheet.now i j result }
 {
     let mut table = [0.0; 1024];
-    if readings::steps(reading, n, sheet, &mut table) {
-        return Entry::Seconds {
-            value: row::get(i - 1, j - 1, &table),
-        };
+    if !readings::steps(Whole::new(reading, n, sheet), &mut table) {
+        return Err(Question::InRange.into());
     }
-    Entry::Refused {
-        number: 10,
-        row: 0,
-        column: 0,
-    }
+    Ok(row::get(i - 1, j - 1, &table))
 }
 
 // One entry: the seconds that a request entering at stage i spends at stage j, counted from 1.
-pub fn one_entry(reading: usize, n: usize, e: i64, sheet: &[f64], i: usize, j: usize) -> Entry
+pub fn one_entry(
+    reading: usize,
+    n: usize,
+    e: i64,
+    sheet: &[f64],
+    i: usize,
+    j: usize,
+) -> Result<f64, Refusal>
     ensures { EntryDone reading n e sheet.now i j result }
 {
-    let asked = sheet::entry_input(reading, n, e, sheet, i, j);
-    if asked.number != 0 {
-        return Entry::Refused {
-            number: asked.number,
-            row: asked.row,
-            column: asked.column,
-        };
-    }
+    sheet::entry_input(reading, n, e, sheet, i, j)?;
     entry_of_sheet(reading, n, e, sheet, i, j)
 }

@@ -10,11 +10,11 @@ use lib.IntN.{ℤ, pos, negsuc, ◌+ℤ◌, ◌-ℤ◌, +ℤ_assoc, +ℤ_idr, +�
 use lib.ListN.{length, get_or}
 use lib.Ieee.{Float, nan, inf, fin}
 use lib.Ieee.Fits.{and_l, and_r}
+use Rattle.std.proofs.lemmas.Int.{ints}
 use Rattle.definitions.specs.Questions.{exponent_in_range}
 use Rattle.definitions.specs.Moving.{times_power}
 use Rattle.rounding.specs.Scaling.{power}
 use Rattle.powers.specs.Doubling.{same_integer, same_number, doubles, doubling_rule, RuleGivesPowers}
-use Rattle.powers.proofs.Place.{place-below}
 
 -- ---- the same number is an equal one
 same_sign : (s t : Bool) → T (beq s t) → s ≡ t
@@ -56,6 +56,10 @@ each k (x ∷ xs) t (suc i) h =
     each (k +ℤ pos 1) xs (others_double k x xs t) i (le_of_suc-le-suc h) ∙ ap power (+ℤ_assoc k (pos 1) (pos i) ∙ ap (λ (j : ℕ). k +ℤ pos j) next)
 
 -- ---- the place of each k
+pub place-below : (k : ℤ) → T (exponent_in_range k) → (at : ℕ) → pos at ≡ k +ℤ pos 512 → at < 1025
+unfolding exponent_in_range
+place-below k t at is = grind (arith, ints)
+
 pub in_table : (table : List Float) → T (doubling_rule table) → (k : ℤ) → T (exponent_in_range k) → (at : ℕ) → pos at ≡ k +ℤ pos 512 → at < length table
 unfolding doubling_rule
 in_table table t k inside at is = rw (eqb→eq (length table) 1025 (and_l (eqb (length table) 1025) _ t)) (place-below k inside at is)

@@ -11,6 +11,7 @@ mod table;
 use table::POWERS;
 
 // k + 512, for k from -512 to 512.
+#[tactic(auto, unfolding(definitions::specs::Questions::exponent_in_range))]
 fn place_of(k: i64) -> usize
     requires { T (exponent_in_range k) }
     ensures { pos result ≡ k +ℤ pos 512 }

@@ -1,6 +1,6 @@
 // The powers from 2^-512 to 2^512 in order, 2^k at place k + 512 (document 02, U6). Each number is the shortest decimal
 // that is read as its power.
-pub const POWERS: [f64; 1025] = [
+pub static POWERS: [f64; 1025] = [
     7.458340731200207e-155,
     1.4916681462400413e-154,
     2.983336292480083e-154,

@@ -19,27 +19,30 @@ use Rattle.tables.specs.Vectors.{vector}
 use Rattle.accuracy.proofs.PriceRule.{accurate_prices}
 use Rattle.accuracy.proofs.Same.{same_vector}
 use Rattle.writing.proofs.AcceptedArea.{vector_area}
-use Rattle.answers.specs.declared.Filled.TheVariants as told
+use Rattle.std.specs.Prelude.{Result, Ok, Err}
+use Rattle.answers.specs.declared.Question.TheVariants as question
+use Rattle.answers.specs.declared.Refusal.{Refusal}
+use Rattle.answers.specs.Answers.{number, of_call, told}
 use Rattle.price_planner.specs.Promises.{PriceStepped, PricesDone}
 
 module _ (reading n : ℕ) (e : ℤ) (sheet prices before : List Float) where
-  refused_with : {number row column : ℕ} → price_questions reading n e sheet prices (length before) ≡ refuse number row column
-      → PricesDone reading n e sheet prices prices before before (told.Refused number row column)
+  refused_with : {r : Result ℕ Refusal} {refusal : Refusal} → r ≡ Err refusal → price_questions reading n e sheet prices (length before) ≡ refuse (number refusal.question) refusal.row refusal.column
+      → PricesDone reading n e sheet prices prices before before r
   unfolding price_answer price_area
-  refused_with is =
+  refused_with r is =
       record {
         kept = refl;
-        answered = ap (λ q. answer q (price_allowance reading n)) (sym is);
+        answered = ap told r ∙ ap (λ q. answer q (price_allowance reading n)) (sym is);
         area = ap (λ q. filled q (request_prices reading n sheet prices) before) (sym is);
         accurate = λ p. absurd (never_both is p);
       }
 
-  pub prices_refused : {number row column : ℕ} → (price_input reading n e sheet (length prices) (length before) then question19 n prices) ≡ refuse number row column
-      → PricesDone reading n e sheet prices prices before before (told.Refused number row column)
+  pub prices_refused : {r : Result ℕ Refusal} {refusal : Refusal} → r ≡ Err refusal → (price_input reading n e sheet (length prices) (length before) then question19 n prices) ≡ refuse (number refusal.question) refusal.row refusal.column
+      → PricesDone reading n e sheet prices prices before before r
   unfolding price_questions
-  prices_refused is =
+  prices_refused r is =
       let ten = ask (prices_in_range reading n sheet prices) 10 0 0 in
-      refused_with (sym (then_assoc (price_input reading n e sheet (length prices) (length before)) (question19 n prices) ten) ∙ ap (λ q. q then ten) is)
+      refused_with r (sym (then_assoc (price_input reading n e sheet (length prices) (length before)) (question19 n prices) ten) ∙ ap (λ q. q then ten) is)
 
   module _ (passed : (price_input reading n e sheet (length prices) (length before) then question19 n prices) ≡ pass)
       {ps : List Float} {ok : Bool} (stepped : PriceStepped reading n sheet prices ok ps) where
@@ -49,13 +52,13 @@ module _ (reading n : ℕ) (e : ℤ) (sheet prices before : List Float) where
     fine : question19 n prices ≡ pass
     fine = then_next (price_input reading n e sheet (length prices) (length before)) (question19 n prices) passed
 
-    pub prices_out_of_range : ok ≡ false → PricesDone reading n e sheet prices prices before before (told.Refused 10 0 0)
+    pub prices_out_of_range : {r : Result ℕ Refusal} → r ≡ Err (of_call question.InRange) → ok ≡ false → PricesDone reading n e sheet prices prices before before r
     unfolding price_questions
-    prices_out_of_range bad = refused_with (rw (input, fine, ← stepped.range, bad))
+    prices_out_of_range r bad = refused_with r (rw (input, fine, ← stepped.range, bad))
 
     pub prices_given : {after : List Float} {allowed : ℕ} → Binary64 sheet → Binary64 prices → ok ≡ true
         → after ≡ list (vector ps) n ++ drop n before → allowed ≡ price_allowance reading n
-        → PricesDone reading n e sheet prices prices before after (told.Allowed allowed)
+        → PricesDone reading n e sheet prices prices before after (Ok allowed)
     unfolding price_answer price_area price_questions request_prices
     prices_given {after} fit held good written a =
         let asked : price_questions reading n e sheet prices (length before) ≡ pass = rw (input, fine, ← stepped.range, good) in

@@ -6,34 +6,37 @@ ghost use Rattle.std.specs.Prelude.{◌≡◌, length};
 ghost use Rattle.definitions.specs.Questions.{◌then◌, pass};
 ghost use Rattle.definitions.specs.Prices.{question19, price_input};
 ghost use Rattle.answers.specs.Outcome.{ComesTo};
-ghost use Rattle.tables.specs.Vectors.{IsVector};
-ghost use Rattle.shape.specs.Square.{WholeSheet};
 ghost use Rattle.price_planner.specs.Promises.{PriceStepped, PricesDone};
 
-use answers::{Asked, Filled};
+use answers::{Question, Refusal};
+use shape::sheets::Whole;
 
 // The questions that come before the steps.
-fn ask(reading: usize, n: usize, e: i64, sheet: &[f64], prices: &[f64], room: usize) -> Asked
-    ensures { let given = prices.now in ComesTo (price_input reading n e sheet.now (length given) room then question19 n given) result.number result.row result.column }
+fn ask(
+    reading: usize,
+    n: usize,
+    e: i64,
+    sheet: &[f64],
+    prices: &[f64],
+    room: usize,
+) -> Result<(), Refusal>
+    ensures { let given = prices.now in ComesTo (price_input reading n e sheet.now (length given) room then question19 n given) result }
 {
-    let asked = sheet::price_input(reading, n, e, sheet, prices.len(), room);
-    if asked.number != 0 {
-        return asked;
-    }
+    sheet::price_input(reading, n, e, sheet, prices.len(), room)?;
     prices::ask_prices(prices)
 }
 
 // The prices of all stages, in p, from the table, which stands in an array of this function's own; true if every step
 // of both is in range. Where one is not, p is left open.
-fn steps(reading: usize, n: usize, sheet: &[f64], prices: &[f64], p: &mut [f64; 32]) -> bool
-    requires { WholeSheet reading n sheet.now × (length prices.now ≡ n) × IsVector p.old }
-    ensures { PriceStepped reading n sheet.now prices.now result p.new }
+fn steps(whole: Whole<'_>, prices: &[f64], p: &mut [f64; 32]) -> bool
+    requires { length prices.now ≡ whole.sheet.n }
+    ensures { PriceStepped whole.entry.reading whole.entry.sheet.n whole.entry.sheet.numbers.now prices.now result p.new }
 {
     let mut x = [0.0; 1024];
-    if !readings::steps(reading, n, sheet, &mut x) {
+    if !readings::steps(whole, &mut x) {
         return false;
     }
-    prices::request_prices(n, &x, prices, p)
+    prices::request_prices(whole.sheet.n, &x, prices, p)
 }
 
 // The prices of a sheet that passed the questions before 10. Nothing is written before question 10 passes too.
@@ -44,22 +47,16 @@ fn prices_of_sheet(
     sheet: &[f64],
     prices: &[f64],
     answer: &mut [f64],
-) -> Filled
+) -> Result<usize, Refusal>
     requires { (price_input reading n e sheet.now (length prices.now) (length answer.old) then question19 n prices.now) ≡ pass }
     ensures { PricesDone reading n e sheet.now prices.now prices.now answer.old answer.new result }
 {
     let mut p = [0.0; 32];
-    if steps(reading, n, sheet, prices, &mut p) {
-        writing::write_column(n, &p, answer);
-        return Filled::Allowed {
-            allowance: allowance::allowance_of_prices(reading, n),
-        };
+    if !steps(Whole::new(reading, n, sheet), prices, &mut p) {
+        return Err(Question::InRange.into());
     }
-    Filled::Refused {
-        number: 10,
-        row: 0,
-        column: 0,
-    }
+    writing::write_column(n, &p, answer);
+    Ok(allowance::allowance_of_prices(reading, n))
 }
 
 // The price of a request that enters at each stage, in the first n places of the answer area, from the prices per
@@ -71,16 +68,9 @@ pub fn request_prices(
     sheet: &[f64],
     prices: &[f64],
     answer: &mut [f64],
-) -> Filled
+) -> Result<usize, Refusal>
     ensures { PricesDone reading n e sheet.now prices.now prices.now answer.old answer.new result }
 {
-    let asked = ask(reading, n, e, sheet, prices, answer.len());
-    if asked.number != 0 {
-        return Filled::Refused {
-            number: asked.number,
-            row: asked.row,
-            column: asked.column,
-        };
-    }
+    ask(reading, n, e, sheet, prices, answer.len())?;
     prices_of_sheet(reading, n, e, sheet, prices, answer)
 }

@@ -31,9 +31,6 @@ flag_more p i a b f g t = below_more p i (f (and_l a b t)) (g (and_r a b t))
 pub record PassesBefore (n : ℕ) (sheet : List Float) (i : ℕ) : Type 0 where
   pub before : (k : ℕ) → i * n + i ≤ k + n → k < i * n + i → PassesOff (get_or sheet k nan)
 
-pub none_before : {n : ℕ} {sheet : List Float} → PassesBefore n sheet 0
-none_before = record { before = λ k low high. absurd (omega arith) }
-
 -- Diagonal place i lies in the sheet, and so do n numbers before it.
 pub stretch_inside : {n i : ℕ} {sheet : List Float} → Square n sheet → 1 ≤ i → i < n
     → (n ≤ i * n + i) × (i * n + i ≤ length sheet) × (i * n + i < 1024)
@@ -82,7 +79,7 @@ module _ (reading n : ℕ) (sheet : List Float) (on : DiagonalPasses reading n s
       (λ o. absurd (let few = rows_few reading n in omega arith)))
       (λ l. stage-passes question i j l hj)
 
-  places_pass : (question : ℕ) → ask_places question reading n sheet ≡ pass
+  places_pass : (question : ℕ) → ask_places (passes question reading n) question reading n sheet ≡ pass
   unfolding ask_places
   places_pass question = rows_pass (λ i j. passes question reading n i j (place n sheet i j)) question n (sheet_rows reading n) (place-passes question)
 

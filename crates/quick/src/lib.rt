@@ -4,22 +4,19 @@
 
 ghost use Rattle.std.specs.Prelude.{◌≡◌, T};
 ghost use Rattle.definitions.specs.Questions.{pass, place_questions};
-ghost use Rattle.shape.specs.Square.{Square, WholeSheet};
 ghost use Rattle.quick.specs.QuickPass.{DiagonalPasses, PartWithin, StretchPasses, SizesPass, WeightsPass};
 
-use shape::{number_at, weights_of};
+use shape::sheets::{Sheet, Whole};
 
 // Questions 6, 7 and 8 of the diagonal: each number is zero (reading 1), or from 2^-1022 to the largest number.
-fn diagonal_passes(reading: usize, n: usize, sheet: &[f64]) -> bool
-    requires { Square n sheet.now }
-    ensures { T result → DiagonalPasses reading n sheet.now }
+fn diagonal_passes(reading: usize, sheet: Sheet<'_>) -> bool
+    ensures { T result → DiagonalPasses reading sheet.entry.n sheet.entry.numbers.now }
 {
     let mut good = true;
-    for i in 0..n {
-        let x = number_at(n, i, i, sheet);
-        good = good
-            & (((x == 0.0) & (reading == 1))
-                | ((2.2250738585072014e-308 <= x) & (x <= 1.7976931348623157e308)));
+    for i in 0..sheet.n {
+        let x = sheet.number_at(i, i);
+        good &= ((x == 0.0) & (reading == 1))
+            | ((2.2250738585072014e-308 <= x) & (x <= 1.7976931348623157e308));
     }
     good
 }
@@ -29,11 +26,8 @@ fn part_within(zeros: bool, low: f64, high: f64, part: &[f64]) -> bool
     ensures { T result → PartWithin zeros low high part.now }
 {
     let mut good = true;
-    let mut k = 0;
-    while k < part.len() {
-        let x = part[k];
-        good = good & (((x == 0.0) & zeros) | ((low <= x) & (x <= high)));
-        k += 1;
+    for &x in part {
+        good &= ((x == 0.0) & zeros) | ((low <= x) & (x <= high));
     }
     good
 }
@@ -63,14 +57,13 @@ fn weights_pass(weights: &[f64]) -> bool
 }
 
 // All numbers off the diagonal: the n numbers before each of its places but the first.
-fn sizes_pass(n: usize, sheet: &[f64]) -> bool
-    requires { Square n sheet.now }
-    ensures { T result → SizesPass n sheet.now }
+fn sizes_pass(sheet: Sheet<'_>) -> bool
+    ensures { T result → SizesPass sheet.entry.n sheet.entry.numbers.now }
 {
-    for i in 1..n {
-        let to = i * n + i;
-        let from = to - n;
-        if !stretch_passes(&sheet[from..to]) {
+    for i in 1..sheet.n {
+        let to = i * sheet.n + i;
+        let from = to - sheet.n;
+        if !stretch_passes(&sheet.numbers[from..to]) {
             return false;
         }
     }
@@ -79,15 +72,14 @@ fn sizes_pass(n: usize, sheet: &[f64]) -> bool
 
 // Whether questions 6, 7 and 8 pass, as far as the quick pass can tell. What a no means is left open; after a
 // yes they do pass.
-pub fn sheet_passes(reading: usize, n: usize, sheet: &[f64]) -> bool
-    requires { WholeSheet reading n sheet.now }
-    ensures { T result → place_questions reading n sheet.now ≡ pass }
+pub fn sheet_passes(whole: Whole<'_>) -> bool
+    ensures { let sheet = whole.entry.sheet in T result → place_questions whole.entry.reading sheet.n sheet.numbers.now ≡ pass }
 {
-    if !diagonal_passes(reading, n, sheet) {
+    if !diagonal_passes(whole.reading, whole.sheet) {
         return false;
     }
-    if !sizes_pass(n, sheet) {
+    if !sizes_pass(whole.sheet) {
         return false;
     }
-    weights_pass(weights_of(n, sheet))
+    weights_pass(whole.sheet.weights())
 }

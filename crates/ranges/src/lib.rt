@@ -8,7 +8,7 @@
 ghost use Rattle.std.specs.Prelude.{◌≡◌, ◌-◌, ◌≤◌, ◌<◌};
 ghost use Rattle.std.specs.Float.Ieee.{lt};
 ghost use Rattle.definitions.specs.Numbers.{◌⊗◌, ◌⊘◌, smallest, all};
-ghost use Rattle.tables.specs.RowMajor.{IsTable, table};
+ghost use Rattle.tables.specs.RowMajor.{table};
 ghost use Rattle.tables.specs.Rows.{times_in_range};
 ghost use Rattle.bounds.specs.Bounds.{Covering};
 ghost use Rattle.passes.specs.StageTests.{RowTold};
@@ -32,7 +32,7 @@ fn quick(m: f64, lo: f64) -> bool
 
 // The products of m with the numbers of row k, one by one, in the columns from lo up to hi.
 pub fn products_in_range(k: usize, m: f64, lo: usize, hi: usize, a: &[f64; 1024]) -> bool
-    requires { (k < 32) × (lo ≤ hi) × (hi ≤ 32) × IsTable a.now }
+    requires { (k < 32) × (lo ≤ hi) × (hi ≤ 32) }
     ensures { result ≡ all (times_in_range m (table a.now k)) lo (hi - lo) }
 {
     let mut ok = true;
@@ -47,7 +47,7 @@ pub fn products_in_range(k: usize, m: f64, lo: usize, hi: usize, a: &[f64; 1024]
 // Row i at stage k, whose pivot is p and whose multiplier m: lo bounds row k's running sum and sizes. Of row i
 // it looks at column k alone.
 pub fn row_told(r: usize, k: usize, i: usize, p: f64, m: f64, lo: f64, t: &[f64; 1024]) -> bool
-    requires { (k < i) × (i < r) × (r ≤ 32) × IsTable t.now × (m ≡ table t.now i k ⊘ p) × Covering lo (table t.now k) k r }
+    requires { (k < i) × (i < r) × (r ≤ 32) × (m ≡ table t.now i k ⊘ p) × Covering lo (table t.now k) k r }
     ensures { let f = table t.now in RowTold r k i p (f i k) (f k) result }
 {
     let x = row::get(i, k, t);
@@ -65,7 +65,7 @@ pub fn row_told(r: usize, k: usize, i: usize, p: f64, m: f64, lo: f64, t: &[f64;
 
 // The quick test of the multipliers of row i in the columns from `from` up to `to`.
 pub fn row_quick(i: usize, from: usize, to: usize, lo: f64, t: &[f64; 1024]) -> bool
-    requires { (i < 32) × (from ≤ to) × (to ≤ 32) × IsTable t.now }
+    requires { (i < 32) × (from ≤ to) × (to ≤ 32) }
     ensures { QuickRow lo (table t.now i) from to result }
 {
     let mut ok = true;

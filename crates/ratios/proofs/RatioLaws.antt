@@ -1,7 +1,7 @@
 -- The laws behind a and k: k grows by one number, what is known of it serves the next h, and a finite a_i has its additions in range.
 use mathlib.Core.Path.{◌≡◌, refl, sym, ap, ap₂, ◌∙◌, fun_ext}
 use Prim.Native.Nat.{ℕ, zero, suc, ◌+◌, ◌-◌, ◌≤◌, ◌<◌}
-use native.Mathlib.Nat.{le_antisymm, zero-add, sub-zero}
+use native.Mathlib.Nat.{zero-add, sub-zero}
 use native.Mathlib.Numerals.{add-one}
 use native.Mathlib.Omega.{arith}
 use mathlib.Core.Bool.{Bool, true, not, ◌&&◌, cond}
@@ -72,9 +72,6 @@ module _ (n : ℕ) (t : ℕ → ℕ → Float) (d : ℕ → Float) where
   unfolding all
   ratios_turn {i} g s =
       rw (add-one i) (record { vectors = s.vectors; range = ap₂ ◌&&◌ g.range (s.range ∙ ap (ratio_in_range n t d (ratio n t d)) (sym (zero-add i))) })
-
-  pub ratios_all : {i : ℕ} {ok : Bool} {a k : List Float} {kept : List Bool} → RatiosTested n t d i ok a k kept → i ≤ n → n ≤ i → RatiosTested n t d n ok a k kept
-  ratios_all g l m = rw (le_antisymm l m) at g
 
   -- The tests of stage i: where a_i is finite, so are h_i and the sum before it.
   stage_test_lem : (k : ℕ → Float) (i : ℕ) → (all (λ j. mul_in_range (t i j) (k j)) 0 i && finite (a n t d k i) && div_in_range (h n t d k i) (a n t d k i)) ≡ ratio_in_range n t d k i

@@ -4,16 +4,15 @@
 
 ghost use Rattle.std.specs.Prelude.{◌≡◌, suc, ◌-◌, ◌≤◌, ◌<◌};
 ghost use Rattle.definitions.specs.Numbers.{0·0, sum};
-ghost use Rattle.tables.specs.RowMajor.{IsTable, table};
-ghost use Rattle.tables.specs.Vectors.{IsVector, vector, VectorHolds};
-ghost use Rattle.compact.specs.Listing.{IsMask};
+ghost use Rattle.tables.specs.RowMajor.{table};
+ghost use Rattle.tables.specs.Vectors.{vector, VectorHolds};
 ghost use Rattle.ratios.specs.Ratios.{RatiosBefore, RatiosTested, StageTested};
 
 use tables::{row, vector};
 
 // The sum goes on from start with t_ij over j > i.
 fn sum_after(n: usize, i: usize, start: f64, t: &[f64; 1024]) -> f64
-    requires { (i < n) × (n ≤ 32) × IsTable t.now }
+    requires { (i < n) × (n ≤ 32) }
     ensures { result ≡ sum start (table t.now i) (suc i) (n - suc i) }
 {
     let mut sum = start;
@@ -35,7 +34,7 @@ fn stage(
     k: &mut [f64; 32],
     kept: &mut [bool; 32],
 ) -> bool
-    requires { (i < n) × (n ≤ 32) × IsTable t.now × IsVector d.now × RatiosBefore n (table t.now) (vector d.now) i a.old k.old kept.old }
+    requires { (i < n) × (n ≤ 32) × RatiosBefore n (table t.now) (vector d.now) i a.old k.old kept.old }
     ensures { StageTested n (table t.now) (vector d.now) i result a.new k.new kept.new }
 {
     let before = rows::dot(i, 0, i, t, k);
@@ -61,7 +60,7 @@ pub fn fill(
     k: &mut [f64; 32],
     kept: &mut [bool; 32],
 ) -> bool
-    requires { (n ≤ 32) × IsTable t.now × IsVector d.now × IsVector a.old × VectorHolds k.old (λ _. 0·0) × IsMask kept.old }
+    requires { (n ≤ 32) × VectorHolds k.old (λ _. 0·0) }
     ensures { RatiosTested n (table t.now) (vector d.now) n result a.new k.new kept.new }
 {
     let mut ok = true;

@@ -1,11 +1,10 @@
 -- A record by its place in the file: question 11, and where the numbers of a record stand.
-use Prim.Native.Nat.{ℕ, ◌+◌, ◌-◌, ◌≤◌, ◌<◌}
-use mathlib.Core.Bool.{Bool, true, false}
+use Prim.Native.Nat.{ℕ, ◌+◌, ◌-◌, ◌≤◌}
+use mathlib.Core.Bool.{true}
 use mathlib.Core.List.{List}
-use mathlib.Core.Path.{◌≡◌, refl, sym, ap, ◌∙◌}
-use native.Mathlib.Nat.{lt_of_not-le, not-le_of_lt}
+use mathlib.Core.Path.{◌≡◌, ap, ◌∙◌}
 use native.Mathlib.Omega.{arith}
-use borrow.Author.Tests.{lt-leb, le-leb, leb-true, leb-false}
+use borrow.Author.Tests.{leb-true}
 use lib.Dec.{leb}
 use lib.ListN.{length, drop, length-drop}
 use lib.Seq.{drop-drop}
@@ -13,25 +12,7 @@ use Rattle.exact.proofs.Bools.{and_second}
 use Rattle.definitions.specs.File.{little, record_length, record_kind, payload, whole_record}
 use Rattle.records.proofs.Little.{within}
 
-same_order : (a b c d : ℕ) → (a ≤ b → c ≤ d) → (c ≤ d → a ≤ b) → leb a b ≡ leb c d
-same_order a b c d f g = go (leb a b) refl
-  where
-    go : (t : Bool) → leb a b ≡ t → t ≡ leb c d
-    go true e = sym (le-leb c d (f (leb-true a b e)))
-    go false e = sym (lt-leb c d (lt_of_not-le (λ h. not-le_of_lt (leb-false a b e) (g h))))
-
 module _ (bytes : List ℕ) (at : ℕ) where
-  -- Fewer than six bytes are left; or six are, and the length has the value that was read.
-  pub cut_short : length bytes - at < 6 → false ≡ whole_record (drop at bytes)
-  unfolding whole_record
-  cut_short h = rw (length-drop, lt-leb 6 (length bytes - at) h)
-
-  pub whole_by_length : (size : ℕ) → size ≡ little 4 (drop at bytes) → 6 ≤ length bytes - at → leb size (length bytes - at - 6) ≡ whole_record (drop at bytes)
-  unfolding whole_record record_length
-  whole_by_length size e h =
-      rw (length-drop, le-leb 6 (length bytes - at) h, ← e)
-      (same_order size (length bytes - at - 6) (6 + size) (length bytes - at) (λ l. omega arith) (λ l. omega arith))
-
   -- A whole record ends within the file.
   pub whole_room : whole_record (drop at bytes) ≡ true → at + (6 + record_length (drop at bytes)) ≤ length bytes
   unfolding whole_record

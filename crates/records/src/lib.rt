@@ -9,18 +9,14 @@ ghost use Rattle.definitions.specs.Saving as saving;
 ghost use Rattle.definitions.specs.Saving.{little_bytes};
 ghost use Rattle.buffer.specs.Pasted.{Room, Written};
 
-// The number in the `width` bytes from `at` on, little-endian: read from the last byte to the first.
+// The number in the `width` bytes from `at` on, little-endian; the bytes above them are zeros.
 pub fn number_at(bytes: &[u8], at: usize, width: usize) -> u64
     requires { (width ≤ 8) × (at + width ≤ length bytes.now) }
     ensures { result ≡ little width (drop at bytes.now) }
 {
-    let mut number: u64 = 0;
-    let mut k = 0;
-    while k < width {
-        k += 1;
-        number = bytes[at + (width - k)] as u64 + 256 * number;
-    }
-    number
+    let mut word = [0; 8];
+    word[..width].copy_from_slice(&bytes[at..at + width]);
+    u64::from_le_bytes(word)
 }
 
 // The same for a length, a kind, a reading, a number of stages or a row number.
@@ -36,25 +32,20 @@ pub fn signed_at(bytes: &[u8], at: usize) -> i64
     requires { at + 2 ≤ length bytes.now }
     ensures { result ≡ signed (little 2 (drop at bytes.now)) }
 {
-    let word = field_at(bytes, at, 2);
-    if word < 32768 {
-        return word as i64;
-    }
-    word as i64 - 65536
+    i64::from(i16::from_le_bytes([bytes[at], bytes[at + 1]]))
 }
 
 // The two bytes of a signed number, as the number that `put_number` writes.
+#[tactic(auto, unfolding(definitions::specs::Saving::complement))]
 pub fn complement(number: i64) -> u64
     requires { mag number < 32768 }
     ensures { result ≡ saving.complement number }
 {
-    if number < 0 {
-        return (65536 + number) as u64;
-    }
-    number as u64
+    u64::from((number as i16).cast_unsigned())
 }
 
 // Question 11, of the record that starts at `at`.
+#[tactic(auto, unfolding(definitions::specs::File::whole_record, definitions::specs::File::record_length))]
 pub fn is_whole(bytes: &[u8], at: usize) -> bool
     requires { at ≤ length bytes.now }
     ensures { result ≡ whole_record (drop at bytes.now) }
@@ -67,6 +58,7 @@ pub fn is_whole(bytes: &[u8], at: usize) -> bool
 }
 
 // Where the record that starts at `at`, and that the file holds whole, ends.
+#[tactic(auto, unfolding(definitions::specs::File::record_length))]
 pub fn record_end(bytes: &[u8], at: usize) -> usize
     requires { at + (6 + record_length (drop at bytes.now)) ≤ length bytes.now }
     ensures { result ≡ at + (6 + record_length (drop at bytes.now)) }
@@ -74,18 +66,16 @@ pub fn record_end(bytes: &[u8], at: usize) -> usize
     at + (6 + field_at(bytes, at, 4))
 }
 
-// Writes a number in `width` bytes, little-endian, as `buffer` writes.
+// Writes a number in `width` bytes, little-endian, as `buffer` writes; byte by byte, since the width may be above eight.
 pub fn put_number(number: u64, width: usize, at: usize, out: &mut [u8]) -> usize
     requires { Room (little_bytes width number) at out.old }
     ensures { Written (little_bytes width number) at out.old out.new result }
 {
     let mut rest = number;
     let mut next = at;
-    let mut done = 0;
-    while done < width {
+    for _ in 0..width {
         next = buffer::put_byte((rest % 256) as u8, next, out);
-        rest = rest / 256;
-        done += 1;
+        rest /= 256;
     }
     next
 }

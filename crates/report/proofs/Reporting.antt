@@ -7,26 +7,25 @@ use mathlib.Core.List.{List, ◌++◌}
 use borrow.Author.Tests.{ltb-true, ltb-false}
 use lib.Dec.{ltb}
 use lib.IntN.{ℤ}
-use lib.ListN.{length, take, drop}
+use lib.ListN.{length, take, drop, length-map}
 use lib.Seq.{take_at, take_all, take-length, length-take-le}
-use lib.Ieee.{Float}
+use lib.Ieee.{Float, binary64, of_bits}
 use Rattle.exact.proofs.Cases.{by_bool}
 use Rattle.definitions.specs.Sheet.{sheet_numbers}
-use Rattle.definitions.specs.Questions.{Asked, pass, refuse}
-use Rattle.definitions.specs.Services.{given, answer, table_answer}
-use Rattle.definitions.specs.File.{file_questions, file_answer, file_numbers, file_number_area, longest_file}
+use Rattle.definitions.specs.Services.{table_answer}
+use Rattle.definitions.specs.File.{file_answer, file_words, file_numbers, file_number_area, longest_file}
 use Rattle.definitions.specs.Dwell.{refused_line, table_text, file_text, dwell_text}
 use Rattle.buffer.specs.Pasted.{AtStart}
 use Rattle.buffer.proofs.Pasting.{count_within}
 use Rattle.text.specs.AnswerText.{answer_text}
 use Rattle.text.proofs.Answer.{text_of_answer}
-use Rattle.answers.specs.declared.Loaded.{Loaded}
-use Rattle.answers.specs.declared.Loaded.TheVariants as file
-use Rattle.answers.specs.Answers.{filled_given, head_given}
+use Rattle.std.specs.Prelude.{Result, Ok, Err}
+use Rattle.answers.specs.declared.Head.{Head}
+use Rattle.answers.specs.declared.Refusal.{Refusal}
+use Rattle.answers.specs.Answers.{number, told, head_told}
 use Rattle.counts.proofs.Counts.{numbers_few}
-use Rattle.file.proofs.Reading.{to_fill}
-use Rattle.payload.proofs.FileWords.{few_stages, words_due, as_many_words}
-use Rattle.answers.specs.declared.Filled.{Filled}
+use Rattle.file.proofs.Reading.{accepted, to_fill}
+use Rattle.payload.proofs.FileWords.{few_stages, words_due}
 use Rattle.planner.specs.Promises.{TableDone}
 use Rattle.report.specs.Reported.{Reported}
 
@@ -44,50 +43,44 @@ pub same_report : {s t before after : List ℕ} {count : ℕ} → s ≡ t → Re
 same_report e w = rw e at w
 
 -- The text for what the whole table's service answers, and for the area that it leaves.
-pub served_text : (reading n : ℕ) (e : ℤ) (sheet before after : List Float) → length before ≡ 1024 → {r : Filled} → TableDone reading n e sheet before after r
-    → answer_text n e after (filled_given r) ≡ table_text reading n e sheet (table_answer reading n e sheet 1024)
+pub served_text : (reading n : ℕ) (e : ℤ) (sheet before after : List Float) → length before ≡ 1024 → {r : Result ℕ Refusal} → TableDone reading n e sheet before after r
+    → answer_text n e after (told r) ≡ table_text reading n e sheet (table_answer reading n e sheet 1024)
 served_text reading n e sheet before after room done =
     rw (done.area, done.answered) (text_of_answer reading n e sheet before _ refl ∙ rw room)
 
 -- A file is read into the start of an area, and the sheet's numbers are those of the file.
-passed : {A : Type 0} (asked : Asked) (value due : A) → answer asked value ≡ given due → asked ≡ pass
-passed pass value due e = refl
-passed (refuse number row column) value due e = cc
-
-module _ (bytes : List ℕ) (before after : List Float) (room : length before ≡ 1056) {r : Loaded} (answered : head_given r ≡ file_answer bytes (length before))
-    (area : after ≡ file_number_area bytes before) {reading n : ℕ} {e : ℤ} (sheet : r ≡ file.Sheet reading n e) where
-  pub stages : n ≤ 32
-  stages = few_stages bytes n (to_fill bytes (length before) answered sheet).0
-
-  is_given : file_answer bytes (length before) ≡ given (record { reading = reading; n = n; e = e })
-  is_given = sym (rw sheet at answered)
+module _ (bytes : List ℕ) (before after : List Float) (room : length before ≡ 1056) {head : Head} (answered : head_told (Ok head) ≡ file_answer bytes (length before))
+    (area : after ≡ file_number_area bytes before) where
+  pub stages : head.n ≤ 32
+  stages = few_stages bytes head.n (to_fill bytes (length before) answered).0
 
   starts : after ≡ file_numbers bytes ++ drop (length (file_numbers bytes)) before
-  unfolding file_number_area file_answer
-  starts = area ∙ rw (passed (file_questions bytes (length before)) _ _ is_given)
+  unfolding file_number_area
+  starts = area ∙ rw (accepted bytes (length before) answered)
 
   -- The code counts the sheet's numbers.
-  module _ {places : ℕ} (count : places ≡ sheet_numbers reading n) where
+  module _ {places : ℕ} (count : places ≡ sheet_numbers head.reading head.n) where
     pub inside : places ≤ 1056
-    inside = rw count (numbers_few reading n stages)
+    inside = rw count (numbers_few head.reading head.n stages)
 
     all-numbers : length (file_numbers bytes) ≡ places
+    unfolding file_numbers
     all-numbers =
-        let filling = to_fill bytes (length before) answered sheet in
-        as_many_words bytes ∙ words_due bytes n filling.0 filling.1 count
+        let filling = to_fill bytes (length before) answered in
+        length-map (file_words bytes) (λ word. of_bits binary64 word) ∙ words_due bytes head.n filling.0 filling.1 count
 
     numbers : take places after ≡ file_numbers bytes
     numbers = rw starts (take_at (file_numbers bytes) _ places all-numbers)
 
-    pub sheet_text : table_text reading n e (take places after) (table_answer reading n e (take places after) 1024) ≡ file_text bytes (file_answer bytes 1056)
+    pub sheet_text : table_text head.reading head.n head.e (take places after) (table_answer head.reading head.n head.e (take places after) 1024) ≡ file_text bytes (file_answer bytes 1056)
     unfolding file_text
-    sheet_text = rw (numbers, ← room, is_given)
+    sheet_text = rw (numbers, ← room, ← answered)
 
 -- A file that is refused has the line of its refusal.
-pub file_refused : (bytes : List ℕ) {r : Loaded} {number row column : ℕ} → head_given r ≡ file_answer bytes 1056 → r ≡ file.Refused number row column
-    → refused_line number row column ≡ file_text bytes (file_answer bytes 1056)
+pub file_refused : (bytes : List ℕ) (refusal : Refusal) → head_told (Err refusal) ≡ file_answer bytes 1056
+    → refused_line (number refusal.question) refusal.row refusal.column ≡ file_text bytes (file_answer bytes 1056)
 unfolding file_text
-file_refused bytes answered e = ap (file_text bytes) (rw e at answered)
+file_refused bytes refusal answered = ap (file_text bytes) answered
 
 -- The bytes that are judged are all, or as many as the longest file has and one more.
 judged_bytes : (most : ℕ) (input : List ℕ) → take (cond (ltb (length input) most) (length input) most) input ≡ take most input

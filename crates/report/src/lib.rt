@@ -8,8 +8,6 @@ ghost use Rattle.definitions.specs.Dwell.{table_text, file_text, dwell_text};
 ghost use Rattle.buffer.specs.Pasted.{AtStart};
 ghost use Rattle.report.specs.Reported.{Reported};
 
-use answers::Loaded;
-
 // The text for a sheet: its table is made in an area of its own.
 fn table_text(reading: usize, n: usize, e: i64, sheet: &[f64], out: &mut [u8]) -> usize
     requires { (n ≤ 32) × (32768 ≤ length out.old) }
@@ -27,17 +25,14 @@ pub fn answer(bytes: &[u8], out: &mut [u8]) -> usize
     ensures { let bytes = bytes.entry.now in Reported (file_text bytes (file_answer bytes 1056)) out.old out.new result }
 {
     let mut area = [0.0f64; 1056];
-    let loaded = file::read_numbers(bytes, &mut area);
-    match loaded {
-        Loaded::Sheet { reading, n, e } => {
-            let places = counts::numbers(reading, n);
-            table_text(reading, n, e, &area[..places], out)
+    match file::read(bytes, &mut area) {
+        Ok(head) => {
+            let places = counts::numbers(head.reading, head.n);
+            table_text(head.reading, head.n, head.e, &area[..places], out)
         }
-        Loaded::Refused {
-            number,
-            row,
-            column,
-        } => refusal::refused_text(number, row, column, out),
+        Err(refusal) => {
+            refusal::refused_text(refusal.question.into(), refusal.row, refusal.column, out)
+        }
     }
 }
 

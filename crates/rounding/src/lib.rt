@@ -8,6 +8,10 @@ ghost use Rattle.std.specs.Float.Ieee.{of_bits, to_bits};
 ghost use Rattle.definitions.specs.Numbers.{finite};
 ghost use Rattle.rounding.specs.ResultRange.{result_in_range, size_within};
 
+mod bits;
+
+pub use bits::Word;
+
 // Whether x is neither a NaN nor an infinity.
 pub fn is_finite(x: f64) -> bool
     ensures { result ≡ finite x }

@@ -1,18 +1,18 @@
 -- The file of a sheet as the pieces that the writers write, one after another, and its length.
-use Prim.Native.Nat.{ℕ, zero, suc, ◌+◌, ◌*◌, ◌≤◌, ◌<◌}
+use Prim.Native.Nat.{ℕ, zero, suc, ◌+◌, ◌-◌, ◌*◌, ◌≤◌, ◌<◌}
 use mathlib.Core.Bool.{Bool, true, false, cond}
-use mathlib.Core.List.{List, [], ◌∷◌, ◌++◌, append_assoc, append-nil}
+use mathlib.Core.List.{List, [], ◌∷◌, ◌++◌, map, append_assoc, append-nil}
 use mathlib.Core.Path.{◌≡◌, refl, sym, ap, ◌∙◌}
 use native.Mathlib.Nat.{suc-mul, zero-mul, add-zero, mul-le-mul_right}
 use native.Mathlib.Omega.{arith}
-use borrow.Author.Tests.{le-leb, lt-leb}
 use lib.Dec.{eqb}
 use lib.IntN.{ℤ}
 use lib.ListN.{length, take, drop, get_or, length-append, length-drop}
 use lib.Seq.{take-suc, drop-drop, length-take-le}
+use Rattle.std.proofs.lemmas.List.{take-map, drop-map}
 use Rattle.definitions.specs.Sheet.{sheet_rows, sheet_numbers}
 use Rattle.definitions.specs.File.{head_length, file_length}
-use Rattle.definitions.specs.Saving.{little_bytes, record_bytes, complement, head_bytes, word_bytes, row_bytes, weight_bytes, bytes_due, records_bytes, sheet_file}
+use Rattle.definitions.specs.Saving.{little_bytes, record_bytes, complement, head_bytes, word_bytes, bytes_due, records_bytes, sheet_file}
 use Rattle.counts.proofs.Counts.{rows_of-numbers, numbers_few}
 use Rattle.buffer.specs.Pasted.{Room, Written}
 use Rattle.buffer.proofs.Pasting.{written_nothing, room_first, room_next, written_next}
@@ -25,6 +25,9 @@ unfolding word_bytes
 length-words [] = refl
 length-words (word ∷ words) = rw (length-append, length-little) (omega (arith, length-words words))
 
+-- How long the pieces of a file are.
+pub ruleset lengths = (length-little, length-words, length-append)
+
 words_append : (a b : List ℕ) → word_bytes (a ++ b) ≡ word_bytes a ++ word_bytes b
 unfolding word_bytes
 words_append [] b = refl
@@ -34,8 +37,9 @@ one_word : (word : ℕ) → word_bytes (word ∷ []) ≡ little_bytes 8 word
 unfolding word_bytes
 one_word word = append-nil (little_bytes 8 word)
 
-pub words_grow : (words : List ℕ) (k : ℕ) → k < length words → word_bytes (take (suc k) words) ≡ word_bytes (take k words) ++ little_bytes 8 (get_or words k 0)
-words_grow words k h = ap word_bytes (take-suc words k 0 h) ∙ words_append (take k words) (get_or words k 0 ∷ []) ∙ ap (λ l. word_bytes (take k words) ++ l) (one_word (get_or words k 0))
+pub words_grow : (words : List ℕ) (other k : ℕ) → k < length words → word_bytes (take (suc k) words) ≡ word_bytes (take k words) ++ little_bytes 8 (get_or words k other)
+words_grow words other k h =
+    ap word_bytes (take-suc words k other h) ∙ words_append (take k words) (get_or words k other ∷ []) ∙ ap (λ l. word_bytes (take k words) ++ l) (one_word (get_or words k other))
 
 -- A head and another record, piece by piece.
 pub head_pieces : (reading n : ℕ) (e : ℤ) → head_bytes reading n e ≡ little_bytes 4 6 ++ little_bytes 2 1 ++ little_bytes 2 reading ++ little_bytes 2 n ++ little_bytes 2 (complement e)
@@ -54,19 +58,13 @@ length_head reading n e = rw head_pieces (simp (length-append, length-little))
 length_due : (n due : ℕ) (words : List ℕ) → length (bytes_due n due words) ≡ 6 + width_due n due + 8 * length words
 length_due n due words = rw (bytes_due_lem, record_pieces) (simp (length-append, length-little, length-words) (omega arith))
 
--- Which record is due, as the code tells them apart.
-module _ (n due : ℕ) (words : List ℕ) where
-  pub weights_due : n < due → record_bytes 3 (little_bytes 0 0 ++ word_bytes words) ≡ bytes_due n due words
-  unfolding bytes_due weight_bytes little_bytes
-  weights_due h = rw (lt-leb due n h)
-
-  pub row_due : due ≤ n → record_bytes 2 (little_bytes 2 due ++ word_bytes words) ≡ bytes_due n due words
-  unfolding bytes_due row_bytes
-  row_due h = rw (le-leb due n h)
-
 -- Row i of n words each.
 abbrev pub row_of : ℕ → ℕ → List ℕ → List ℕ
 row_of n i words = take n (drop (i * n) words)
+
+-- As the code takes it of the sheet's numbers.
+pub row_taken : {A : Type 0} (word_of : A → ℕ) (n i : ℕ) (sheet : List A) → map word_of (take (i * n + n - i * n) (drop (i * n) sheet)) ≡ row_of n i (map word_of sheet)
+row_taken word_of n i sheet = let size : i * n + n - i * n ≡ n = omega arith in rw (size, drop-map, take-map)
 
 -- One record more at the end; they are due from 1 on.
 records_grow : (n due i : ℕ) (words : List ℕ) → records_bytes n due (suc i) words ≡ records_bytes n due i words ++ bytes_due n (due + i) (row_of n i words)

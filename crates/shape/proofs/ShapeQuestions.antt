@@ -2,7 +2,6 @@
 use mathlib.Core.Path.{◌≡◌, refl, sym, ◌∙◌}
 use mathlib.Core.Bool.{Bool, true, false, not, ◌&&◌, ◌||◌}
 use borrow.Author.Tests.{not-false, eq-eqb, ne_eqb, leb-true, lt-leb, le-leb}
-use native.Mathlib.Omega.{arith}
 use mathlib.Core.List.{List}
 use Prim.Native.Nat.{ℕ, ◌*◌, ◌≤◌, ◌<◌}
 use lib.Dec.{T, leb, eqb, leb→le, eqb→eq}
@@ -18,8 +17,11 @@ use Rattle.definitions.specs.Moving.{move_input}
 use Rattle.definitions.specs.Column.{column_reading, column_shape, column_input}
 use Rattle.definitions.specs.Prices.{question18, price_shape, price_input}
 use Rattle.steps.proofs.QuestionLaws.{then_first, then_next, ask_yes, is_stage, one-stage}
+use Rattle.std.specs.Prelude.{Result}
+use Rattle.answers.specs.declared.Question.TheVariants as question
+use Rattle.answers.specs.declared.Refusal.{Refusal}
 use Rattle.answers.specs.Outcome.{ComesTo}
-use Rattle.answers.proofs.Outcome.{all_pass, no, asked_no, asked_yes, in_other_words}
+use Rattle.answers.proofs.Outcome.{Passes, Refuses, all_pass, no, asked_no, asked_yes, in_other_words}
 use Rattle.exact.proofs.Bools.{and_second}
 use Rattle.shape.specs.Square.{WholeSheet}
 
@@ -51,23 +53,23 @@ sized reading n e held q = size-passed reading n e held (then_next (question1 re
 
 -- What they come to, by the tests of the code.
 module _ (reading n : ℕ) (e : ℤ) (held : ℕ) where
-  pub bad_reading : not (eqb reading 1 || eqb reading 2 || eqb reading 3) ≡ true → ComesTo (shape_questions reading n e held) 1 0 0
+  pub bad_reading : not (eqb reading 1 || eqb reading 2 || eqb reading 3) ≡ true → Refuses (shape_questions reading n e held) question.Reading
   unfolding shape_questions question1 known_reading
-  bad_reading t = no (λ z. omega arith) (rw (asked_no (eqb reading 1 || eqb reading 2 || eqb reading 3) 1 0 0 t))
+  bad_reading t = no (rw (asked_no (eqb reading 1 || eqb reading 2 || eqb reading 3) 1 0 0 t))
 
   module _ (first : not (eqb reading 1 || eqb reading 2 || eqb reading 3) ≡ false) where
-    pub bad_stages : not (leb 1 n && leb n 32) ≡ true → ComesTo (shape_questions reading n e held) 2 0 0
+    pub bad_stages : not (leb 1 n && leb n 32) ≡ true → Refuses (shape_questions reading n e held) question.Stages
     unfolding shape_questions size_questions question1 known_reading question2
-    bad_stages t = no (λ z. omega arith) (rw (asked_yes (eqb reading 1 || eqb reading 2 || eqb reading 3) 1 0 0 first, asked_no (leb 1 n && leb n 32) 2 0 0 t))
+    bad_stages t = no (rw (asked_yes (eqb reading 1 || eqb reading 2 || eqb reading 3) 1 0 0 first, asked_no (leb 1 n && leb n 32) 2 0 0 t))
 
     module _ (second : not (leb 1 n && leb n 32) ≡ false) where
       pub few_passed : n ≤ 32
       few_passed = leb-true n 32 (and_second (leb 1 n) (leb n 32) (not-false (leb 1 n && leb n 32) second))
 
-      pub bad_unit : not (exponent_in_range e) ≡ true → ComesTo (shape_questions reading n e held) 12 0 0
+      pub bad_unit : not (exponent_in_range e) ≡ true → Refuses (shape_questions reading n e held) question.Head
       unfolding shape_questions size_questions question1 known_reading question2 question12
       bad_unit t =
-          no (λ z. omega arith)
+          no
           (rw (asked_yes (eqb reading 1 || eqb reading 2 || eqb reading 3) 1 0 0 first, asked_yes (leb 1 n && leb n 32) 2 0 0 second, asked_no (exponent_in_range e) 12 0 0 t))
 
       module _ (unit : not (exponent_in_range e) ≡ false) where
@@ -76,40 +78,40 @@ module _ (reading n : ℕ) (e : ℤ) (held : ℕ) where
         to_length = rw (asked_yes (eqb reading 1 || eqb reading 2 || eqb reading 3) 1 0 0 first, asked_yes (leb 1 n && leb n 32) 2 0 0 second, asked_yes (exponent_in_range e) 12 0 0 unit)
 
         module _ {count : ℕ} (is : count ≡ sheet_numbers reading n) where
-          pub bad_length : (held ≡ count → ⊥) → ComesTo (shape_questions reading n e held) 3 0 0
+          pub bad_length : (held ≡ count → ⊥) → Refuses (shape_questions reading n e held) question.Length
           unfolding question3
-          bad_length h = no (λ z. omega arith) (to_length ∙ rw (ne_eqb held (sheet_numbers reading n) (λ same. h (same ∙ sym is))))
+          bad_length h = no (to_length ∙ rw (ne_eqb held (sheet_numbers reading n) (λ same. h (same ∙ sym is))))
 
-          pub good_shape : held ≡ count → ComesTo (shape_questions reading n e held) 0 0 0
+          pub good_shape : held ≡ count → Passes (shape_questions reading n e held)
           unfolding question3
           good_shape same = all_pass (to_length ∙ rw (eq-eqb held (sheet_numbers reading n) (same ∙ is)))
 
 -- And question 4, for any number of places, and question 5.
 module _ (needed room : ℕ) where
-  pub bad_room : room < needed → ComesTo (question4 needed room) 4 0 0
+  pub bad_room : room < needed → Refuses (question4 needed room) question.Room
   unfolding question4
-  bad_room h = no (λ z. omega arith) (rw (lt-leb needed room h))
+  bad_room h = no (rw (lt-leb needed room h))
 
-  pub good_room : needed ≤ room → ComesTo (question4 needed room) 0 0 0
+  pub good_room : needed ≤ room → Passes (question4 needed room)
   unfolding question4
   good_room h = all_pass (rw (le-leb needed room h))
 
 module _ (n i j : ℕ) where
-  pub bad_entry : not (leb 1 i && leb i n && (leb 1 j && leb j n)) ≡ true → ComesTo (question5 n i j) 5 0 0
+  pub bad_entry : not (leb 1 i && leb i n && (leb 1 j && leb j n)) ≡ true → Refuses (question5 n i j) question.StageAsked
   unfolding question5
-  bad_entry e = no (λ z. omega arith) (asked_no (leb 1 i && leb i n && (leb 1 j && leb j n)) 5 0 0 e)
+  bad_entry e = no (asked_no (leb 1 i && leb i n && (leb 1 j && leb j n)) 5 0 0 e)
 
-  pub good-entry : not (leb 1 i && leb i n && (leb 1 j && leb j n)) ≡ false → ComesTo (question5 n i j) 0 0 0
+  pub good-entry : not (leb 1 i && leb i n && (leb 1 j && leb j n)) ≡ false → Passes (question5 n i j)
   unfolding question5
   good-entry e = all_pass (asked_yes (leb 1 i && leb i n && (leb 1 j && leb j n)) 5 0 0 e)
 
 -- And question 18.
 module _ (n given : ℕ) where
-  pub bad_count : (given ≡ n → ⊥) → ComesTo (question18 n given) 18 0 0
+  pub bad_count : (given ≡ n → ⊥) → Refuses (question18 n given) question.PriceCount
   unfolding question18
-  bad_count h = no (λ z. omega arith) (rw (ne_eqb given n h))
+  bad_count h = no (rw (ne_eqb given n h))
 
-  pub good_count : given ≡ n → ComesTo (question18 n given) 0 0 0
+  pub good_count : given ≡ n → Passes (question18 n given)
   unfolding question18
   good_count same = all_pass (rw (eq-eqb given n same))
 
@@ -136,20 +138,20 @@ module _ (n : ℕ) (e : ℤ) (held room stage : ℕ) where
   column_shape_lem = refl
 
   -- What it asks of reading 1, after the first four.
-  pub column-next : {reading number row column : ℕ} → reading ≡ 1
-      → ComesTo (shape_questions 1 n e held then question4 n room then question5 n stage stage) number row column
-      → ComesTo (column_shape reading n e held room stage) number row column
+  pub column-next : {A : Type 0} {reading : ℕ} {answer : Result A Refusal} → reading ≡ 1
+      → ComesTo (shape_questions 1 n e held then question4 n room then question5 n stage stage) answer
+      → ComesTo (column_shape reading n e held room stage) answer
   column-next one q = rw one (in_other_words (sym column_shape_lem) q)
 
-  pub column_bad_reading : {reading : ℕ} → (reading ≡ 1 → ⊥) → ComesTo (column_shape reading n e held room stage) 1 0 0
+  pub column_bad_reading : {reading : ℕ} → (reading ≡ 1 → ⊥) → Refuses (column_shape reading n e held room stage) question.Reading
   unfolding column_shape column_reading
-  column_bad_reading {reading} h = no (λ z. omega arith) (rw (ne_eqb reading 1 h))
+  column_bad_reading {reading} h = no (rw (ne_eqb reading 1 h))
 
 module _ (n stage : ℕ) where
-  pub bad_stage : not (leb 1 stage && leb stage n) ≡ true → ComesTo (question5 n stage stage) 5 0 0
+  pub bad_stage : not (leb 1 stage && leb stage n) ≡ true → Refuses (question5 n stage stage) question.StageAsked
   bad_stage t = bad_entry n stage stage (rw (same_again (leb 1 stage && leb stage n)) t)
 
-  pub good-stage : not (leb 1 stage && leb stage n) ≡ false → ComesTo (question5 n stage stage) 0 0 0
+  pub good-stage : not (leb 1 stage && leb stage n) ≡ false → Passes (question5 n stage stage)
   good-stage t = good-entry n stage stage (rw (same_again (leb 1 stage && leb stage n)) t)
 
 -- What is known of a column's call once its questions passed.

@@ -1,7 +1,7 @@
 -- The shares one after another; above a kept stage they are tested.
 use mathlib.Core.Path.{◌≡◌, refl, sym, ap, ◌∙◌}
-use Prim.Native.Nat.{ℕ, suc, ◌+◌, ◌≤◌}
-use native.Mathlib.Nat.{le_antisymm, zero-add}
+use Prim.Native.Nat.{ℕ, suc, ◌+◌}
+use native.Mathlib.Nat.{zero-add}
 use native.Mathlib.Numerals.{add-one}
 use native.Mathlib.Omega.{arith}
 use mathlib.Core.List.{List}
@@ -42,6 +42,3 @@ module _ (kept : ℕ → Bool) where
           range = rw (zero-add j, h.range, e, s);
           are = λ i m. ap (λ w. w i) v.is ∙ by_equal i j (λ g. rw g (replace_same j x (vector ws) ∙ q)) (λ g. replace_other j x (vector ws) i g ∙ h.are i (omega arith));
         })
-
-    pub shares_end : {j n : ℕ} {ok : Bool} {ws : List Float} → Shares kept d a j ok ws → j ≤ n → n ≤ j → Shares kept d a n ok ws
-    shares_end h l m = rw (le_antisymm l m) at h

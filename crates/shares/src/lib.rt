@@ -2,15 +2,15 @@
 #![tactic(auto)]
 
 ghost use Rattle.std.specs.Prelude.{◌≤◌};
-ghost use Rattle.tables.specs.Vectors.{IsVector, vector};
-ghost use Rattle.compact.specs.Listing.{IsMask, marked};
+ghost use Rattle.tables.specs.Vectors.{vector};
+ghost use Rattle.compact.specs.Listing.{marked};
 ghost use Rattle.shares.specs.Shares.{Shares};
 
 use tables::vector;
 
 // The shares d_j / a_j of the stages; true if those above a kept stage are in range.
 pub fn shares(n: usize, d: &[f64; 32], a: &[f64; 32], kept: &[bool; 32], w: &mut [f64; 32]) -> bool
-    requires { (n ≤ 32) × IsVector d.now × IsVector a.now × IsMask kept.now × IsVector w.old }
+    requires { n ≤ 32 }
     ensures { Shares (marked kept.now) (vector d.now) (vector a.now) n result w.new }
 {
     let mut ok = true;

@@ -8,64 +8,49 @@ ghost use Rattle.definitions.specs.Column.{column_input};
 ghost use Rattle.definitions.specs.Moving.{move_input};
 ghost use Rattle.definitions.specs.Prices.{price_input};
 ghost use Rattle.answers.specs.Outcome.{ComesTo};
-ghost use Rattle.shape.specs.Square.{WholeSheet};
 
-use answers::Asked;
-use places::ask_places;
+use answers::Refusal;
+use places::{ask_finite, ask_signs, ask_sizes};
+use shape::sheets::Whole;
 
 // Questions 6, 7 and 8. The quick pass tells that all numbers are good; where it does not, the searches
 // find the first bad place.
-fn ask_all_places(reading: usize, n: usize, sheet: &[f64]) -> Asked
-    requires { WholeSheet reading n sheet.now }
-    ensures { ComesTo (place_questions reading n sheet.now) result.number result.row result.column }
+fn ask_all_places(whole: Whole<'_>) -> Result<(), Refusal>
+    ensures { let sheet = whole.entry.sheet in ComesTo (place_questions whole.entry.reading sheet.n sheet.numbers.now) result }
 {
-    if quick::sheet_passes(reading, n, sheet) {
-        return Asked {
-            number: 0,
-            row: 0,
-            column: 0,
-        };
+    if quick::sheet_passes(whole) {
+        return Ok(());
     }
-    let finite = ask_places(6, reading, n, sheet);
-    if finite.number != 0 {
-        return finite;
-    }
-    let signs = ask_places(7, reading, n, sheet);
-    if signs.number != 0 {
-        return signs;
-    }
-    ask_places(8, reading, n, sheet)
+    ask_finite(whole)?;
+    ask_signs(whole)?;
+    ask_sizes(whole)
 }
 
-// Questions 6 to 9, or 6 to 8 alone for a call that 9 does not concern. One function for both, so that the
-// compiler puts the places' questions into it.
-fn ask_numbers(nine: bool, reading: usize, n: usize, sheet: &[f64]) -> Asked
-    requires { WholeSheet reading n sheet.now }
-    ensures { ComesTo (cond nine (number_questions reading n sheet.now) (place_questions reading n sheet.now)) result.number result.row result.column }
+// Questions 6 to 9, or 6 to 8 alone for a call that 9 does not concern. A flag and not a function or a constant for each:
+// with two, the compiler no longer puts the places' questions into them, and a table of two stages takes 5 % longer.
+fn ask_numbers(nine: bool, whole: Whole<'_>) -> Result<(), Refusal>
+    ensures { let reading = whole.entry.reading in let n = whole.entry.sheet.n in let sheet = whole.entry.sheet.numbers.now in
+        ComesTo (cond nine (number_questions reading n sheet) (place_questions reading n sheet)) result }
 {
-    let places = ask_all_places(reading, n, sheet);
+    ask_all_places(whole)?;
     if !nine {
-        return places;
+        return Ok(());
     }
-    if places.number != 0 {
-        return places;
-    }
-    trapped::ask_trapped(reading, n, sheet)
+    trapped::ask_trapped(whole.reading, whole.sheet)
 }
 
 // The questions of the whole table that come before its steps; `room` is the length of the answer area.
-pub fn table_input(reading: usize, n: usize, e: i64, sheet: &[f64], room: usize) -> Asked
-    ensures { ComesTo (table_input reading n e sheet.now room) result.number result.row result.column }
+pub fn table_input(
+    reading: usize,
+    n: usize,
+    e: i64,
+    sheet: &[f64],
+    room: usize,
+) -> Result<(), Refusal>
+    ensures { ComesTo (table_input reading n e sheet.now room) result }
 {
-    let shape = shape::ask_table(reading, n, e, sheet.len(), room);
-    if shape != 0 {
-        return Asked {
-            number: shape,
-            row: 0,
-            column: 0,
-        };
-    }
-    ask_numbers(true, reading, n, sheet)
+    shape::ask_table(reading, n, e, sheet.len(), room)?;
+    ask_numbers(true, Whole::new(reading, n, sheet))
 }
 
 // The same for the column of a stage, counted from 1; `room` is the length of its answer area.
@@ -76,33 +61,26 @@ pub fn column_input(
     sheet: &[f64],
     room: usize,
     stage: usize,
-) -> Asked
-    ensures { ComesTo (column_input reading n e sheet.now room stage) result.number result.row result.column }
+) -> Result<(), Refusal>
+    ensures { ComesTo (column_input reading n e sheet.now room stage) result }
 {
-    let shape = shape::ask_column(reading, n, e, sheet.len(), room, stage);
-    if shape != 0 {
-        return Asked {
-            number: shape,
-            row: 0,
-            column: 0,
-        };
-    }
-    ask_numbers(true, 1, n, sheet)
+    shape::ask_column(reading, n, e, sheet.len(), room, stage)?;
+    ask_numbers(true, Whole::new(1, n, sheet))
 }
 
 // The same for the entry at row i and column j, counted from 1.
-pub fn entry_input(reading: usize, n: usize, e: i64, sheet: &[f64], i: usize, j: usize) -> Asked
-    ensures { ComesTo (entry_input reading n e sheet.now i j) result.number result.row result.column }
+pub fn entry_input(
+    reading: usize,
+    n: usize,
+    e: i64,
+    sheet: &[f64],
+    i: usize,
+    j: usize,
+) -> Result<(), Refusal>
+    ensures { ComesTo (entry_input reading n e sheet.now i j) result }
 {
-    let shape = shape::ask_entry(reading, n, e, sheet.len(), i, j);
-    if shape != 0 {
-        return Asked {
-            number: shape,
-            row: 0,
-            column: 0,
-        };
-    }
-    ask_numbers(true, reading, n, sheet)
+    shape::ask_entry(reading, n, e, sheet.len(), i, j)?;
+    ask_numbers(true, Whole::new(reading, n, sheet))
 }
 
 // The same for prices, 18 among them; `given` is how many there are, and `room` the length of the answer area.
@@ -113,31 +91,23 @@ pub fn price_input(
     sheet: &[f64],
     given: usize,
     room: usize,
-) -> Asked
-    ensures { ComesTo (price_input reading n e sheet.now given room) result.number result.row result.column }
+) -> Result<(), Refusal>
+    ensures { ComesTo (price_input reading n e sheet.now given room) result }
 {
-    let shape = shape::ask_prices(reading, n, e, sheet.len(), given, room);
-    if shape != 0 {
-        return Asked {
-            number: shape,
-            row: 0,
-            column: 0,
-        };
-    }
-    ask_numbers(true, reading, n, sheet)
+    shape::ask_prices(reading, n, e, sheet.len(), given, room)?;
+    ask_numbers(true, Whole::new(reading, n, sheet))
 }
 
 // The questions of moving that come before its own; `area` is the length of the second area.
-pub fn move_input(reading: usize, n: usize, e: i64, sheet: &[f64], area: usize) -> Asked
-    ensures { ComesTo (move_input reading n e sheet.now area) result.number result.row result.column }
+pub fn move_input(
+    reading: usize,
+    n: usize,
+    e: i64,
+    sheet: &[f64],
+    area: usize,
+) -> Result<(), Refusal>
+    ensures { ComesTo (move_input reading n e sheet.now area) result }
 {
-    let shape = shape::ask_move(reading, n, e, sheet.len(), area);
-    if shape != 0 {
-        return Asked {
-            number: shape,
-            row: 0,
-            column: 0,
-        };
-    }
-    ask_numbers(false, reading, n, sheet)
+    shape::ask_move(reading, n, e, sheet.len(), area)?;
+    ask_numbers(false, Whole::new(reading, n, sheet))
 }

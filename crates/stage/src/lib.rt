@@ -4,7 +4,7 @@
 #![tactic(auto)]
 
 ghost use Rattle.std.specs.Prelude.{◌≡◌, suc, ◌≤◌, ◌<◌};
-ghost use Rattle.tables.specs.RowMajor.{IsTable, table, Holds};
+ghost use Rattle.tables.specs.RowMajor.{table, Holds};
 ghost use Rattle.bounds.specs.Bounds.{Covering};
 ghost use Rattle.passes.specs.Weights.{weights_in, Enough};
 ghost use Rattle.passes.specs.Stages.{multiplied_rows};
@@ -16,7 +16,7 @@ use tables::row;
 // The multipliers of stage k's rows, and whether the rows' steps are in range. They have a loop of their
 // own, since the sums of a row would wait for its division. Of the rows they look at column k alone.
 fn multipliers(r: usize, k: usize, stage: Stage, lo: f64, t: &mut [f64; 1024]) -> bool
-    requires { (k < r) × (r ≤ 32) × IsTable t.old × Covering lo (table t.old k) k r }
+    requires { (k < r) × (r ≤ 32) × Covering lo (table t.old k) k r }
     ensures { let f = table t.old in RowsTold r k stage.p f result × Holds t.new (multiplied_rows k stage.p r f) }
 {
     let mut ok = true;
@@ -32,15 +32,14 @@ fn multipliers(r: usize, k: usize, stage: Stage, lo: f64, t: &mut [f64; 1024]) -
 // Stage k up to its multipliers, with its pivot's steps and its rows' in range or not. What it tells is left open where
 // a result of the rows is not finite.
 fn begin(r: usize, k: usize, weights: &[f64], t: &mut [f64; 1024]) -> Begun
-    requires { (k < r) × (r ≤ 32) × Enough r weights.now × IsTable t.old }
+    requires { (k < r) × (r ≤ 32) × Enough r weights.now }
     ensures { StageBegins (weights_in weights.now) r k (table t.old) result.stage.s result.stage.p result.ok t.new }
 {
     let pivot = pivots::begin(r, k, weights, t);
-    let stage = pivot.stage;
     let lo = bounds::least(1.0, k, k, r, t);
-    let rows = multipliers(r, k, stage, lo, t);
+    let rows = multipliers(r, k, pivot.stage, lo, t);
     Begun {
-        stage,
+        stage: pivot.stage,
         ok: pivot.ok & rows,
     }
 }
@@ -49,7 +48,7 @@ fn begin(r: usize, k: usize, weights: &[f64], t: &mut [f64; 1024]) -> Begun
 // Stage k does at first what stage k + 1 needs of it to begin, so that the later rows take both at once. Where
 // no rows are left, stage k + 1 is the last.
 pub fn eliminate_pair(r: usize, k: usize, weights: &[f64], t: &mut [f64; 1024]) -> bool
-    requires { (suc k < r) × (r ≤ 32) × Enough r weights.now × IsTable t.old }
+    requires { (suc k < r) × (r ≤ 32) × Enough r weights.now }
     ensures { PairFinds (weights_in weights.now) r k (table t.old) result t.new }
 {
     let first = begin(r, k, weights, t);
@@ -68,7 +67,7 @@ pub fn eliminate_pair(r: usize, k: usize, weights: &[f64], t: &mut [f64; 1024]) 
 
 // The last stage, which has no rows: its pivot in its place, and whether its steps are in range.
 pub fn last(r: usize, k: usize, weights: &[f64], t: &mut [f64; 1024]) -> bool
-    requires { (suc k ≡ r) × (r ≤ 32) × Enough r weights.now × IsTable t.old }
+    requires { (suc k ≡ r) × (r ≤ 32) × Enough r weights.now }
     ensures { StageFinds (weights_in weights.now) r k (table t.old) result t.new }
 {
     let pivot = pivots::begin(r, k, weights, t);

@@ -17,7 +17,7 @@ pub fn table(
     ensures { TableCall reading n e sheet.now answer.old answer.new allowance.old allowance.new row.new column.new result }
 {
     let table = planner::whole_table(reading, n, e, sheet, answer);
-    out_places::hand_allowance(table, allowance, row, column)
+    out_places::hand(table, allowance, row, column)
 }
 
 // The column of a stage, counted from 1, in the first n places of the answer area, and its allowance.
@@ -35,7 +35,7 @@ pub fn column(
     ensures { ColumnCall reading n e sheet.now stage answer.old answer.new allowance.old allowance.new row.new column.new result }
 {
     let told = column_planner::one_column(reading, n, e, sheet, stage, answer);
-    out_places::hand_allowance(told, allowance, row, column)
+    out_places::hand(told, allowance, row, column)
 }
 
 // Entry (i, j), counted from 1: the seconds that a request entering at stage i spends at stage j.
@@ -53,7 +53,7 @@ pub fn entry(
     ensures { EntryCall reading n e sheet.now i j seconds.old seconds.new row.new column.new result }
 {
     let entry = planner::one_entry(reading, n, e, sheet, i, j);
-    out_places::hand_seconds(entry, seconds, row, column)
+    out_places::hand(entry, seconds, row, column)
 }
 
 // The price of a request that enters at each stage, in the first n places of the answer area, and its allowance.
@@ -71,5 +71,5 @@ pub fn prices(
     ensures { PricesCall reading n e sheet.now prices.now prices.now answer.old answer.new allowance.old allowance.new row.new column.new result }
 {
     let told = price_planner::request_prices(reading, n, e, sheet, prices, answer);
-    out_places::hand_allowance(told, allowance, row, column)
+    out_places::hand(told, allowance, row, column)
 }

@@ -1,11 +1,12 @@
 -- The places of a table: one that is read, and one that is written.
-use mathlib.Core.Path.{◌≡◌, refl, sym, ◌∙◌, fun_ext}
-use Prim.Native.Nat.{ℕ, zero, suc, ◌+◌, ◌*◌, ◌≤◌, ◌<◌}
-use native.Mathlib.Nat.{mul-le-mul_right, le_of_suc-le-suc}
+use mathlib.Core.Path.{◌≡◌, sym, ◌∙◌, fun_ext}
+use Prim.Native.Nat.{ℕ, suc, ◌+◌, ◌*◌, ◌≤◌, ◌<◌}
+use native.Mathlib.Nat.{mul-le-mul_right}
 use native.Mathlib.Omega.{arith}
-use mathlib.Core.List.{List, [], ◌∷◌}
+use mathlib.Core.List.{List}
 use lib.ListN.{length, get_or, set, length-set}
 use lib.Seq.{get_or-set_same, get_or-set_other}
+use Rattle.std.proofs.lemmas.List.{get_or_default}
 use lib.Ieee.{Float}
 use borrow.Author.Tests.{lt-ltb, le-ltb}
 use Rattle.exact.proofs.Cases.{by_equal, by_order}
@@ -14,12 +15,6 @@ use Rattle.definitions.specs.Numbers.{0·0}
 use Rattle.tables.specs.RowMajor.{table_of, HoldsIn}
 use Rattle.tables.specs.Operators.{replace, put}
 use Rattle.tables.proofs.Operators.{replace_same, replace_other}
-
--- Inside a list the value beyond its end does not matter.
-pub any_default : {A : Type 0} (xs : List A) (i : ℕ) (d e : A) → i < length xs → get_or xs i d ≡ get_or xs i e
-any_default [] i d e h = let z : ⊥ = omega arith in absurd z
-any_default (x ∷ xs) zero d e h = refl
-any_default (x ∷ xs) (suc i) d e h = any_default xs i d e (le_of_suc-le-suc h)
 
 -- Two places of one index are one place.
 same_row : (w i a j b : ℕ) → i < a → j < w → a * w + b ≡ i * w + j → ⊥
@@ -43,7 +38,7 @@ module _ {limit width i j : ℕ} (xs : List Float) (long : length xs ≡ limit *
   index_fits = let m : suc i * width ≤ limit * width = mul-le-mul_right width hi in omega arith
 
   pub read_holds : (d : Float) → get_or xs (i * width + j) d ≡ table_of limit width xs i j
-  read_holds d = any_default xs (i * width + j) d 0·0 index_fits ∙ sym (table_at limit width i j xs hi hj)
+  read_holds d = get_or_default xs (i * width + j) d 0·0 index_fits ∙ sym (table_at limit width i j xs hi hj)
 
   module _ (x : Float) where
     after : List Float

@@ -8,11 +8,11 @@ use mathlib.Core.List.{List}
 use lib.Dec.{ltb}
 use lib.ListN.{length, get_or, set, replicate, length-set, length-replicate, get_or-replicate, get_or-eq_default}
 use lib.Seq.{get_or-set_same, get_or-set_other}
+use Rattle.std.proofs.lemmas.List.{get_or_default}
 use lib.Ieee.{Float}
 use Rattle.definitions.specs.Numbers.{0·0}
 use Rattle.tables.specs.Operators.{replace, between}
 use Rattle.exact.proofs.Cases.{by_equal, by_order, by_bool}
-use Rattle.tables.proofs.RowMajor.{any_default}
 use Rattle.tables.proofs.Operators.{replace_same, replace_other, between_none, between_past, between_step}
 use Rattle.tables.specs.RowMajor.{table_of, HoldsIn}
 use Rattle.tables.specs.Vectors.{vector, VectorIn}
@@ -23,7 +23,7 @@ module _ {limit i : ℕ} (xs : List Float) (long : length xs ≡ limit) (hi : i 
 
   pub read_vector : (d : Float) → get_or xs i d ≡ vector xs i
   unfolding vector
-  read_vector d = any_default xs i d 0·0 within
+  read_vector d = get_or_default xs i d 0·0 within
 
   pub write_vector : (x : Float) → VectorIn limit (set xs i x) (replace i x (vector xs))
   unfolding vector

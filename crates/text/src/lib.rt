@@ -5,11 +5,11 @@
 ghost use Rattle.std.specs.Prelude.{◌++◌, ◌*◌, ◌≤◌, length};
 ghost use Rattle.definitions.specs.Sheet.{place};
 ghost use Rattle.definitions.specs.Dwell.{seconds_line, table_lines};
-ghost use Rattle.answers.specs.Answers.{filled_given};
+ghost use Rattle.answers.specs.Answers.{told};
 ghost use Rattle.buffer.specs.Pasted.{Room, Written, AtStart};
 ghost use Rattle.text.specs.AnswerText.{answer_text};
 
-use answers::Filled;
+use answers::Refusal;
 
 // The first line of an accepted sheet: n, the allowance and e.
 fn put_seconds(n: usize, allowance: usize, e: i64, at: usize, out: &mut [u8]) -> usize
@@ -33,16 +33,20 @@ fn seconds_text(n: usize, allowance: usize, e: i64, answer: &[f64], out: &mut [u
 }
 
 // The text for what the whole table's service answers; where it is accepted, `answer` holds the table.
-pub fn answer_text(told: Filled, n: usize, e: i64, answer: &[f64], out: &mut [u8]) -> usize
+pub fn answer_text(
+    table: Result<usize, Refusal>,
+    n: usize,
+    e: i64,
+    answer: &[f64],
+    out: &mut [u8],
+) -> usize
     requires { (n ≤ 32) × (n * n ≤ length answer.now) × (32768 ≤ length out.old) }
-    ensures { AtStart (answer_text n e answer.now (filled_given told)) out.old out.new result }
+    ensures { AtStart (answer_text n e answer.now (told table)) out.old out.new result }
 {
-    match told {
-        Filled::Allowed { allowance } => seconds_text(n, allowance, e, answer, out),
-        Filled::Refused {
-            number,
-            row,
-            column,
-        } => refusal::refused_text(number, row, column, out),
+    match table {
+        Ok(allowance) => seconds_text(n, allowance, e, answer, out),
+        Err(refusal) => {
+            refusal::refused_text(refusal.question.into(), refusal.row, refusal.column, out)
+        }
     }
 }

@@ -1,8 +1,7 @@
 -- The stage that the search of document 01's question 9 takes next.
-use Rattle.std.specs.Prelude.{Bool, true, false, ◌≡◌, ℕ, ◌≤◌, ◌<◌}
+use Rattle.std.specs.Prelude.{Bool, true, false, Option, Some, None, ◌≡◌, ℕ, ◌<◌}
 
--- r is one of n stages that has p and not q, or n where there is none.
-pub record NextStage (p q : ℕ → Bool) (n r : ℕ) : Type 0 where
-  pub inside : r ≤ n
-  pub waits : r < n → (p r ≡ true) × (q r ≡ false)
-  pub none : r ≡ n → (i : ℕ) → i < n → p i ≡ true → q i ≡ true
+-- One of n stages that has p and not q, if there is one.
+abbrev pub NextStage : (ℕ → Bool) → (ℕ → Bool) → ℕ → Option ℕ → Type 0
+NextStage p q n (Some j) = (j < n) × (p j ≡ true) × (q j ≡ false)
+NextStage p q n None = (i : ℕ) → i < n → p i ≡ true → q i ≡ true

@@ -3,8 +3,9 @@ use mathlib.Core.Path.{◌≡◌, refl, sym, ap, ◌∙◌}
 use Prim.Native.Nat.{ℕ, zero, suc, ◌+◌, ◌-◌, ◌≤◌, ◌<◌}
 use native.Mathlib.Nat.{le_refl}
 use native.Mathlib.Omega.{arith}
-use mathlib.Core.Bool.{Bool, true, false}
+use mathlib.Core.Bool.{Bool, true, false, not}
 use mathlib.Core.List.{List}
+use lib.Dec.{eqb}
 use lib.Ieee.{Float}
 use Rattle.exact.proofs.Cases.{by_order}
 use Rattle.exact.proofs.Bools.{contrary}
@@ -16,6 +17,10 @@ use Rattle.passes.specs.RowPass.{turn, reach, staged}
 use Rattle.passes.proofs.RowPass.{staged-next, staged_same, staged-from}
 use Rattle.blocks.specs.Blocks.{nth, Reaches}
 use Rattle.turns.specs.Turns.{skipped, first_done, Skips, RowBecomes}
+
+-- What a const parameter of type bool stands for.
+abbrev pub flag : ℕ → Bool
+flag n = not (eqb n 0)
 
 -- ---- the rows in their order
 module _ (r : ℕ) (few : r ≤ 32) where
@@ -91,9 +96,6 @@ pub record Blocks (r : ℕ) (falling : Bool) (s : ℕ) (g f : ℕ → ℕ → Fl
   pub others : (a : ℕ) → (a ≡ turn r falling s → ⊥) → table xs a ≡ f a
   pub done : (c : ℕ) → c < j → c < r → table xs (turn r falling s) c ≡ staged (turn r falling) g f (turn r falling s) s c
   pub due : (c : ℕ) → j ≤ c → table xs (turn r falling s) c ≡ f (turn r falling s) c
-
-pub blocks_begin : {r : ℕ} {falling : Bool} {s : ℕ} {g : ℕ → ℕ → Float} {xs : List Float} (j : ℕ) → j ≡ 0 → IsTable xs → Blocks r falling s g (table xs) xs j
-blocks_begin j e h = record { long = h; others = λ a n. refl; done = λ c l m. let z : ⊥ = omega arith in absurd z; due = λ c l. refl }
 
 module _ {r : ℕ} {falling : Bool} {s : ℕ} {g f : ℕ → ℕ → Float} {xs : List Float} {j : ℕ} (h : Blocks r falling s g f xs j) (few : r ≤ 32) (l : s < r) (skips : Skips r falling s g f) where
   abbrev κ : ℕ → ℕ

@@ -4,18 +4,18 @@
 
 ghost use Rattle.std.specs.Prelude.{◌≤◌, ◌<◌};
 ghost use Rattle.definitions.specs.Numbers.{all};
-ghost use Rattle.tables.specs.RowMajor.{IsTable, table, Gives};
+ghost use Rattle.tables.specs.RowMajor.{table, Gives};
 ghost use Rattle.tables.specs.Operators.{span};
 ghost use Rattle.tables.specs.Rows.{times_in_range};
-ghost use Rattle.tables.specs.Vectors.{IsVector, vector};
-ghost use Rattle.compact.specs.Listing.{Stages};
+ghost use Rattle.tables.specs.Vectors.{vector};
 ghost use Rattle.way_back.specs.WayBack.{multiple, WayBack};
 
+use compact::Stages;
 use tables::{row, vector};
 
 // The first r numbers of row p times m; true if these steps are in range.
 fn multiply(p: usize, m: f64, r: usize, y: &mut [f64; 1024]) -> bool
-    requires { (p < 32) × (r ≤ 32) × IsTable y.old }
+    requires { (p < 32) × (r ≤ 32) }
     ensures { let f = table y.old in Gives result (all (times_in_range m (f p)) 0 r) y.new (span p 0 r (multiple m (f p)) f) }
 {
     let mut ok = true;
@@ -30,15 +30,14 @@ fn multiply(p: usize, m: f64, r: usize, y: &mut [f64; 1024]) -> bool
 }
 
 // The rows of y, each times k of its stage; true if these steps are in range.
-pub fn back(r: usize, stages: &[usize; 32], k: &[f64; 32], y: &mut [f64; 1024]) -> bool
-    requires { Stages 32 r stages.now × IsVector k.now × IsTable y.old }
-    ensures { WayBack r stages.now (vector k.now) (table y.old) result y.new }
+pub fn back(stages: &Stages, k: &[f64; 32], y: &mut [f64; 1024]) -> bool
+    ensures { WayBack stages.now.count stages.now.places (vector k.now) (table y.old) result y.new }
 {
     let mut ok = true;
-    for p in 0..r {
-        let i = compact::stage(p, stages);
+    for p in 0..stages.count {
+        let i = stages.stage(p);
         let m = vector::get(i, k);
-        let row = multiply(p, m, r, y);
+        let row = multiply(p, m, stages.count, y);
         ok = ok & row;
     }
     ok

@@ -1,12 +1,12 @@
 -- A list that is filled from its start, place by place and row by row: the invariants of the two loops, and what a turn does to each.
 use mathlib.Core.Path.{◌≡◌, refl, sym, ap, ◌∙◌}
 use Prim.Native.Nat.{ℕ, suc, ◌+◌, ◌*◌, ◌-◌, ◌≤◌, ◌<◌}
-use native.Mathlib.Nat.{le_antisymm, zero-mul, suc-mul, mul-le-mul_right}
+use native.Mathlib.Nat.{zero-mul, suc-mul, mul-le-mul_right}
 use native.Mathlib.Numerals.{add-one}
 use native.Mathlib.Omega.{arith}
-use mathlib.Core.List.{List, [], ◌∷◌, ◌++◌, append_assoc, append-nil}
-use lib.ListN.{length, get_or, drop, set, length-set, length-take}
-use lib.Seq.{drop-cons, set_at, take_at, drop_at, drop-length}
+use mathlib.Core.List.{List, [], ◌∷◌, ◌++◌, append_assoc}
+use lib.ListN.{length, get_or, drop, set, length-set}
+use lib.Seq.{drop-cons, set_at, take_at, drop_at}
 use borrow.Rule.Slice.PartMut.{put_mid, Post-is, mid_len, same_len_mid, mid_of}
 use Rattle.definitions.specs.Tables.{list, rows}
 use Rattle.steps.proofs.TableLaws.{length-list, length-rows}
@@ -48,14 +48,6 @@ module _ {A : Type 0} where
           is = rw (add-one, e, h.is) (next_place f xs j m);
         }
 
-    pub filled_ends : length ys ≤ j → ys ≡ list f (length xs)
-    filled_ends l =
-        let e : j ≡ length xs = omega (arith, h.long, h.inside) in
-        h.is ∙ ap (λ k. list f k ++ drop k xs) e ∙ ap (λ rest. list f (length xs) ++ rest) (drop-length xs) ∙ append-nil (list f (length xs))
-
-    pub filled_to : {n : ℕ} → j ≤ n → n ≤ j → ys ≡ list f n ++ drop n xs
-    filled_to l m = rw (le_antisymm l m) at h.is
-
   pub rows_begin : {f : ℕ → ℕ → A} {n : ℕ} {xs : List A} → FilledRows f n xs xs 0
   unfolding rows
   rows_begin {f} {n} {xs} = record { inside = omega arith; long = refl; is = rw zero-mul }
@@ -69,9 +61,6 @@ module _ {A : Type 0} where
       (sym (append_assoc (rows f n i) (list (f i) n) (drop (i * n + n) xs)))
 
   module _ {f : ℕ → ℕ → A} {n : ℕ} {xs ys : List A} {i : ℕ} (h : FilledRows f n xs ys i) where
-    pub part_short : length (mid_of (i * n) (i * n + n - i * n) ys) ≤ n
-    part_short = rw (length-take (i * n + n - i * n) (drop (i * n) ys)) (omega arith)
-
     pub rows-turn : {part : List A} → i < n → n * n ≤ length xs → part ≡ list (f i) (length (mid_of (i * n) (i * n + n - i * n) ys))
         → FilledRows f n xs (put_mid (i * n) (i * n + n - i * n) ys part) (i + 1)
     rows-turn {part} l room e =
@@ -83,6 +72,3 @@ module _ {A : Type 0} where
           long = same_len_mid (i * n) (i * n + n - i * n) ys part (ap length e ∙ length-list (f i) (length (mid_of (i * n) (i * n + n - i * n) ys))) ∙ h.long;
           is = rw (add-one, row, h.is) (next_row f n i xs);
         }
-
-    pub rows_end : n ≤ i → ys ≡ rows f n n ++ drop (n * n) xs
-    rows_end l = let e : i ≡ n = omega (arith, h.inside) in h.is ∙ ap (λ k. rows f n k ++ drop (k * n) xs) e

@@ -1,14 +1,12 @@
 -- `blocks::nth` meets its contract. Assumes nothing.
+use borrow.Author.Tests.{ne_eqb}
 use Rattle.blocks.specs.Blocks.{nth}
 use Rattle.blocks.proofs.nth.Goals as goal
 
-pub returns-then-falling : goal.returns-then-falling
+pub returns-then-this-ne0 : goal.returns-then-this-ne0
 unfolding nth
-returns-then-falling c = rw c.if-falling.true
+returns-then-this-ne0 g c = rw (ne_eqb g.row.FALLING 0 c.if-this-ne0.true)
 
 pub returns : goal.returns
 unfolding nth
-returns c = rw c.if-falling.false
-
-pub overflow_sub-result : goal.overflow_sub-result
-overflow_sub-result c = c.requires.2.falls c.if-falling.true
+returns g c = rw c.if-this-ne0.false

@@ -14,7 +14,7 @@ returns c =
     (along_next 2
     (along_next 1
     (along_turns
-    (along_begins refl c.requires.2)
+    (along_begins refl c.told-t)
     c.put.ensures h.first)
     c.put-2.ensures h.second)
     c.put-3.ensures h.third)

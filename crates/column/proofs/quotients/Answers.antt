@@ -4,12 +4,12 @@ use native.Mathlib.Omega.{arith}
 use borrow.Author.Rules.{rules}
 use Rattle.definitions.specs.Numbers.{◌⊘◌, div_in_range}
 use Rattle.rounding.proofs.ResultRange.{quotient_test}
-use Rattle.tables.proofs.Vectors.{vector_begins, vector_due, vector_turns, vector_ends}
-use Rattle.steps.proofs.Gathering.{gathered_begins, gathered_turns, gathered_all}
+use Rattle.tables.proofs.Vectors.{vector_begins, vector_due, vector_turns}
+use Rattle.steps.proofs.Gathering.{gathered_begins, gathered_turns}
 use Rattle.column.proofs.quotients.Goals as goal
 
 pub loop-i-init : goal.loop-i-init
-loop-i-init c = (search rules, vector_begins refl c.requires.2, gathered_begins refl)
+loop-i-init c = (search rules, vector_begins refl c.told-b, gathered_begins refl)
 
 pub loop-i-preserved : goal.loop-i-preserved
 loop-i-preserved c =
@@ -19,8 +19,3 @@ loop-i-preserved c =
       vector_turns v.1 c.put.ensures (ap₂ (λ a b. a ⊘ b) e c.get-p.ensures),
       gathered_turns v.2 (c.result_in_range-step.ensures ∙ quotient_test c.get-x.result c.get-p.result ∙ ap₂ div_in_range e c.get-p.ensures),
     )
-
-pub returns : goal.returns
-returns c =
-    let v = c.loop-i.invariant in
-    record { range = gathered_all v.2 (omega arith) (omega arith); holds = vector_ends v.1 (omega arith) (omega arith) }

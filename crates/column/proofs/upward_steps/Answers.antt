@@ -3,13 +3,8 @@ use mathlib.Core.Path.{◌≡◌}
 use Prim.Native.Nat.{suc, ◌+◌, ◌-◌}
 use native.Mathlib.Omega.{arith}
 use borrow.Author.Rules.{rules}
-use Rattle.column.proofs.ColumnStages.{ups_begin, ups_turn, ups_end}
+use Rattle.column.proofs.ColumnStages.{ups_begin, ups_turn}
 use Rattle.column.proofs.upward_steps.Goals as goal
-
-pub add_multiples-large-requires : goal.add_multiples-large-requires
-add_multiples-large-requires c =
-    let p = c.requires in
-    (omega (arith, p.0), omega arith, omega (arith, p.0), p.1, c.loop-q.invariant.1.long)
 
 pub loop-q-preserved : goal.loop-q-preserved
 loop-q-preserved c =
@@ -19,7 +14,4 @@ loop-q-preserved c =
     (omega arith, ups_turn c.loop-q.invariant.1 (r - 1 - q) e c.add_multiples-large.ensures)
 
 pub loop-q-init : goal.loop-q-init
-loop-q-init c = (search rules, ups_begin c.requires.2)
-
-pub returns : goal.returns
-returns c = ups_end c.loop-q.invariant.1 (omega arith) (omega arith)
+loop-q-init c = (search rules, ups_begin c.told-b)

@@ -1,4 +1,7 @@
 -- `column_planner::column_of_sheet` meets its contract. Assumes nothing.
+use Rattle.std.specs.Prelude.{Err}
+use Rattle.std.proofs.Common.{rules}
+use mathlib.Core.Path.{ap}
 use native.Mathlib.Omega.{arith}
 use lib.ListN.{length}
 use Prim.Native.Nat.{◌≤◌}
@@ -21,23 +24,25 @@ input s =
 pub overflow_sub-stage : goal.overflow_sub-stage
 overflow_sub-stage c = let p = input (goal.at.overflow_sub-stage c).Start in omega (arith, p.2.0)
 
+pub invariant_of-sheet : goal.invariant_of-sheet
+invariant_of-sheet c = record { square = (input (goal.at.invariant_of-sheet c).Start).0 }
+
 pub steps-requires : goal.steps-requires
-steps-requires c = let p = input (goal.at.steps-requires c).Start in (p.0, omega (arith, p.2), new_vector zero_word)
+steps-requires c = let p = input (goal.at.steps-requires c).Start in (omega (arith, p.2), new_vector zero_word)
 
 pub write_column-requires : goal.write_column-requires
 write_column-requires c =
     let p = input (goal.at.write_column-requires c).Start in
-    (omega (arith, p.0.few), omega (arith, p.1), c.steps.ensures.long)
+    (omega (arith, p.0.few), omega (arith, p.1))
 
 pub allowance_of-requires : goal.allowance_of-requires
 allowance_of-requires c = (input (goal.at.allowance_of-requires c).Start).0.few
 
-pub returns-then-steps : goal.returns-then-steps
-unfolding Binary64
-returns-then-steps c =
-    let known = c.shared_slice_known-1.given in
-    column_given c.args.reading c.args.n c.args.e c.args.sheet.now c.args.stage c.args.answer.now c.requires c.steps.ensures known c.if-steps.true c.write_column.ensures c.allowance_of.ensures
-
 pub returns : goal.returns
+unfolding Binary64
 returns c =
-    column_out_of_range c.args.reading c.args.n c.args.e c.args.sheet.now c.args.stage c.args.answer.now c.requires c.steps.ensures c.if-steps.false
+    column_given c.args.reading c.args.n c.args.e c.args.sheet.now c.args.stage c.args.answer.now c.requires c.steps.ensures (search rules) c.if-not-steps.false c.write_column.ensures c.allowance_of.ensures
+
+pub returns-then-not-steps : goal.returns-then-not-steps
+returns-then-not-steps c =
+    column_out_of_range c.args.reading c.args.n c.args.e c.args.sheet.now c.args.stage c.args.answer.now c.requires c.steps.ensures (ap (λ r. Err r) c.into.ensures) c.if-not-steps.true

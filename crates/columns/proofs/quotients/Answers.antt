@@ -13,7 +13,7 @@ use Rattle.tables.proofs.Rows.{row-over_same}
 use Rattle.columns.proofs.quotients.Goals as goal
 
 pub loop-i-init : goal.loop-i-init
-loop-i-init c = (search rules, down_begins refl c.requires.2, gathered_begins refl)
+loop-i-init c = (search rules, down_begins refl c.told-b, gathered_begins refl)
 
 pub loop-i-preserved : goal.loop-i-preserved
 unfolding span

@@ -3,16 +3,13 @@ use mathlib.Core.Path.{refl}
 use native.Mathlib.Omega.{arith}
 use borrow.Author.Rules.{rules}
 use Rattle.downward.specs.Downward.{on_diagonal}
-use Rattle.tables.proofs.Vectors.{vector_begins, vector_turns, vector_ends}
+use Rattle.tables.proofs.Vectors.{vector_begins, vector_turns}
 use Rattle.downward.proofs.pivots.Goals as goal
 
 pub loop-k-init : goal.loop-k-init
-loop-k-init c = (search rules, vector_begins refl c.requires.2)
+loop-k-init c = (search rules, vector_begins refl c.told-p)
 
 pub loop-k-preserved : goal.loop-k-preserved
 unfolding on_diagonal
 loop-k-preserved c =
     (omega arith, vector_turns c.loop-k.invariant.1 c.put.ensures c.get-x.ensures)
-
-pub returns : goal.returns
-returns c = vector_ends c.loop-k.invariant.1 (omega arith) (omega arith)

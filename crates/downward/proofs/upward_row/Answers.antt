@@ -12,14 +12,14 @@ use Rattle.downward.proofs.Downward.{over-pivot, over-pivot_test}
 use Rattle.downward.proofs.upward_row.Goals as goal
 
 pub loop-k-init : goal.loop-k-init
-loop-k-init c = (search rules, along_begins (add-one c.args.i) c.requires.3, gathered_begins (add-one c.args.i))
+loop-k-init c = (search rules, along_begins (add-one c.args.i) c.told-t, gathered_begins (add-one c.args.i))
 
 pub loop-k-preserved : goal.loop-k-preserved
 loop-k-preserved c =
     let h = c.loop-k.invariant.1 in
     let f = table c.args.t.now in
     let a = c.get-x.ensures ∙ along_due h in
-    let b = c.get-y.ensures ∙ c.requires.4 c.loop-k.k h.from (omega arith) in (
+    let b = c.get-y.ensures ∙ c.requires.2 c.loop-k.k h.from (omega arith) in (
       omega arith,
       along_turns h c.put.ensures (over-pivot f c.args.i c.loop-k.k a b),
       gathered_turns c.loop-k.invariant.2 (over-pivot_test f c.args.i c.loop-k.k a b (c.result_in_range-step.ensures ∙ quotient_test c.get-x.result c.get-y.result)),

@@ -11,13 +11,13 @@ use Rattle.tables.proofs.Loops.{down_begins, down_due, down_turns, down_ends}
 use Rattle.downward.proofs.upward_rows.Goals as goal
 
 pub loop-i-init : goal.loop-i-init
-loop-i-init c = (search rules, down_begins refl c.requires.1, gathered_begins refl)
+loop-i-init c = (search rules, down_begins refl c.told-t, gathered_begins refl)
 
 pub upward_row-row-requires : goal.upward_row-row-requires
 upward_row-row-requires c =
     let p = c.pivots.ensures in
     let h = c.loop-i.invariant.1 in
-    (omega arith, c.requires.0, p.long, h.holds.long, pivots_due c.args.r c.loop-i.i (table c.loop-i.t) (table c.args.t.now) (down_due h) _ p)
+    (omega arith, c.requires, pivots_due c.args.r c.loop-i.i (table c.loop-i.t) (table c.args.t.now) (down_due h) _ p)
 
 pub loop-i-preserved : goal.loop-i-preserved
 unfolding span

@@ -1,5 +1,5 @@
 -- `file_questions::judge` meets its contract. The loop's invariant: all before the record due is good, and the questions left are those from that record on. Assumes nothing.
-use Prim.Native.Nat.{◌≤◌}
+use Prim.Native.Nat.{◌+◌, ◌≤◌}
 use mathlib.Core.Path.{◌≡◌, ◌∙◌}
 use mathlib.Core.Bool.{true}
 use lib.ListN.{length, drop}
@@ -67,55 +67,55 @@ pub record_end-at-requires : goal.record_end-at-requires
 record_end-at-requires c =
     whole_room c.args.bytes.now 0 (whole_head (goal.at.record_end-at-requires c).Else-not-is_whole)
 
-pub loop-due-init : goal.loop-due-init
-loop-due-init c =
-    judged_head c.args.bytes.now c.args.room c.field_at-reading.result c.field_at-n.result c.rows-rows.result c.record_end-at.result (whole_head (goal.at.loop-due-init c).Else-not-is_whole) (good_head_lem (goal.at.loop-due-init c).Else-not-is_good_head) c.field_at-reading.ensures c.field_at-n.ensures c.rows-rows.ensures c.record_end-at.ensures
+pub loop-row-init : goal.loop-row-init
+loop-row-init c =
+    judged_head c.args.bytes.now c.args.room c.field_at-reading.result c.field_at-n.result c.rows-rows.result c.record_end-at.result (whole_head (goal.at.loop-row-init c).Else-not-is_whole) (good_head_lem (goal.at.loop-row-init c).Else-not-is_good_head) c.field_at-reading.ensures c.field_at-n.ensures c.rows-rows.ensures c.record_end-at.ensures
 
 -- The file and the room, and the questions left, seen from the loop.
 
 pub returns-then-not-is_whole-2 : goal.returns-then-not-is_whole-2
 returns-then-not-is_whole-2 c =
-    let test = c.is_whole-in-loop-due in
-    let cut = denied test.result (whole_record (drop c.loop-due.at c.args.bytes.now)) test.ensures (ap not c.if-not-is_whole-2.true) in
-    refused_by c.args.bytes.now c.args.room 11 c.loop-due.due c.refused-then-not-is_whole-2.result c.refused-then-not-is_whole-2.ensures
-    (c.loop-due.invariant.left ∙ record_cut c.args.bytes.now c.args.room c.field_at-n.result c.rows-rows.result (sheet_numbers c.field_at-reading.result c.field_at-n.result) c.loop-due.at c.loop-due.due c.loop-due-test.true cut)
+    let test = c.is_whole-in-loop-row in
+    let cut = denied test.result (whole_record (drop c.loop-row.at c.args.bytes.now)) test.ensures (ap not c.if-not-is_whole-2.true) in
+    refused_by c.args.bytes.now c.args.room 11 (c.loop-row.row + 1) c.refused-then-not-is_whole-2.result c.refused-then-not-is_whole-2.ensures
+    (c.loop-row.invariant.left ∙ record_cut c.args.bytes.now c.args.room c.field_at-n.result c.rows-rows.result (sheet_numbers c.field_at-reading.result c.field_at-n.result) c.loop-row.at (c.loop-row.row + 1) (omega arith) cut)
 
-whole_record_lem : (c : goal.Else-not-is_whole-2) → whole_record (drop c.loop-due.at c.args.bytes.now) ≡ true
+whole_record_lem : (c : goal.Else-not-is_whole-2) → whole_record (drop c.loop-row.at c.args.bytes.now) ≡ true
 whole_record_lem c =
-    granted c.is_whole-in-loop-due.result (whole_record (drop c.loop-due.at c.args.bytes.now)) c.is_whole-in-loop-due.ensures (ap not c.if-not-is_whole-2.false)
+    granted c.is_whole-in-loop-row.result (whole_record (drop c.loop-row.at c.args.bytes.now)) c.is_whole-in-loop-row.ensures (ap not c.if-not-is_whole-2.false)
 
 pub is_good_record-requires : goal.is_good_record-requires
 is_good_record-requires c =
-    (whole_room c.args.bytes.now c.loop-due.at (whole_record_lem c), c.loop-due.invariant.few)
+    (whole_room c.args.bytes.now c.loop-row.at (whole_record_lem c), c.loop-row.invariant.few)
 
 pub returns-then-not-is_good_record : goal.returns-then-not-is_good_record
 returns-then-not-is_good_record c =
     let test = c.is_good_record in
-    let bad = denied test.result (good_record c.field_at-n.result c.loop-due.due (drop c.loop-due.at c.args.bytes.now)) test.ensures (ap not c.if-not-is_good_record.true) in
-    refused_by c.args.bytes.now c.args.room 13 c.loop-due.due c.refused-then-not-is_good_record.result c.refused-then-not-is_good_record.ensures
-    (c.loop-due.invariant.left ∙ record_bad c.args.bytes.now c.args.room c.field_at-n.result c.rows-rows.result (sheet_numbers c.field_at-reading.result c.field_at-n.result) c.loop-due.at c.loop-due.due c.loop-due-test.true (whole_record_lem (goal.at.returns-then-not-is_good_record c).Else-not-is_whole-2) bad)
+    let bad = denied test.result (good_record c.field_at-n.result (c.loop-row.row + 1) (drop c.loop-row.at c.args.bytes.now)) test.ensures (ap not c.if-not-is_good_record.true) in
+    refused_by c.args.bytes.now c.args.room 13 (c.loop-row.row + 1) c.refused-then-not-is_good_record.result c.refused-then-not-is_good_record.ensures
+    (c.loop-row.invariant.left ∙ record_bad c.args.bytes.now c.args.room c.field_at-n.result c.rows-rows.result (sheet_numbers c.field_at-reading.result c.field_at-n.result) c.loop-row.at (c.loop-row.row + 1) (omega arith) (whole_record_lem (goal.at.returns-then-not-is_good_record c).Else-not-is_whole-2) bad)
 
-pub record_end-at-requires-in-loop-due : goal.record_end-at-requires-in-loop-due
-record_end-at-requires-in-loop-due c =
-    whole_room c.args.bytes.now c.loop-due.at (whole_record_lem (goal.at.record_end-at-requires-in-loop-due c).Else-not-is_whole-2)
+pub record_end-at-requires-in-loop-row : goal.record_end-at-requires-in-loop-row
+record_end-at-requires-in-loop-row c =
+    whole_room c.args.bytes.now c.loop-row.at (whole_record_lem (goal.at.record_end-at-requires-in-loop-row c).Else-not-is_whole-2)
 
-pub loop-due-preserved : goal.loop-due-preserved
-loop-due-preserved c =
+pub loop-row-preserved : goal.loop-row-preserved
+loop-row-preserved c =
     let test = c.is_good_record in
-    let good = granted test.result (good_record c.field_at-n.result c.loop-due.due (drop c.loop-due.at c.args.bytes.now)) test.ensures (ap not c.if-not-is_good_record.false) in
-    rw c.record_end-at-in-loop-due.ensures
-    (judged_record c.args.bytes.now c.args.room c.field_at-reading.result c.field_at-n.result c.rows-rows.result c.loop-due.at c.loop-due.due c.loop-due.invariant c.loop-due-test.true (whole_record_lem (goal.at.loop-due-preserved c).Else-not-is_whole-2) good)
+    let good = granted test.result (good_record c.field_at-n.result (c.loop-row.row + 1) (drop c.loop-row.at c.args.bytes.now)) test.ensures (ap not c.if-not-is_good_record.false) in
+    rw c.record_end-at-in-loop-row.ensures
+    (judged_record c.args.bytes.now c.args.room c.field_at-reading.result c.field_at-n.result c.rows-rows.result c.loop-row.at (c.loop-row.row + 1) c.loop-row.invariant (omega arith) (whole_record_lem (goal.at.loop-row-preserved c).Else-not-is_whole-2) good)
 
 pub returns-then-at-bytes : goal.returns-then-at-bytes
 returns-then-at-bytes c =
     refused_by c.args.bytes.now c.args.room 14 0 c.refused-then-at-bytes.result c.refused-then-at-bytes.ensures
-    (c.loop-due.invariant.left ∙ bytes_after c.args.bytes.now c.args.room c.field_at-n.result c.rows-rows.result (sheet_numbers c.field_at-reading.result c.field_at-n.result) c.loop-due.at c.loop-due.due c.loop-due-test.false c.loop-due.invariant.inside c.if-at-bytes.true)
+    (c.loop-row.invariant.left ∙ bytes_after c.args.bytes.now c.args.room c.field_at-n.result c.rows-rows.result (sheet_numbers c.field_at-reading.result c.field_at-n.result) c.loop-row.at (c.loop-row.row + 1) (omega arith) c.loop-row.invariant.inside c.if-at-bytes.true)
 
 -- After the last record only question 4 is left, of as many places as the code counted.
-records_done : (c : goal.After-numbers-places) → c.loop-due.at ≡ length c.args.bytes.now → file_questions c.args.bytes.now c.args.room ≡ question4 c.numbers-places.result c.args.room
+records_done : (c : goal.After-numbers-places) → c.loop-row.at ≡ length c.args.bytes.now → file_questions c.args.bytes.now c.args.room ≡ question4 c.numbers-places.result c.args.room
 records_done c end =
     rw c.numbers-places.ensures
-    (c.loop-due.invariant.left ∙ at_end c.args.bytes.now c.args.room c.field_at-n.result c.rows-rows.result (sheet_numbers c.field_at-reading.result c.field_at-n.result) c.loop-due.at c.loop-due.due c.loop-due-test.false end)
+    (c.loop-row.invariant.left ∙ at_end c.args.bytes.now c.args.room c.field_at-n.result c.rows-rows.result (sheet_numbers c.field_at-reading.result c.field_at-n.result) c.loop-row.at (c.loop-row.row + 1) (omega arith) end)
 
 pub returns-then-room-places : goal.returns-then-room-places
 returns-then-room-places c =
@@ -126,7 +126,7 @@ returns-then-room-places c =
 pub returns : goal.returns
 returns c =
     let unit = c.unit_of-e in
-    given_by c.args.bytes.now c.args.room c.field_at-reading.result c.field_at-n.result (to_z w64 (of_z w64 unit.result)) c.loop-due.invariant.kind c.loop-due.invariant.stages (to_z-of_z w64 unit.result (record { sfits = unit.type_inv }) ∙ unit.ensures)
+    given_by c.args.bytes.now c.args.room c.field_at-reading.result c.field_at-n.result (to_z w64 (of_z w64 unit.result)) c.loop-row.invariant.kind c.loop-row.invariant.stages (to_z-of_z w64 unit.result (record { sfits = unit.type_inv }) ∙ unit.ensures)
     (records_done (goal.at.returns c).After-numbers-places (search rules) ∙ room_enough _ c.args.room c.if-room-places.false)
 
 pub field_at-reading-requires : goal.field_at-reading-requires

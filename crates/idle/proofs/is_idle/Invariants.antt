@@ -6,7 +6,7 @@ use Rattle.steps.proofs.LiveStages.{zeros}
 use Rattle.idle.proofs.is_idle.Given as goal
 
 abbrev pub invariant-loop-j : goal.invariant-loop-j
-invariant-loop-j l = (l.j ≤ l.n) × Gathered (zeros l.n l.sheet l.i) 0 l.j true
+invariant-loop-j l = (l.j ≤ l.sheet.n) × Gathered (zeros l.sheet.n l.sheet.numbers.now l.i) 0 l.j true
 
 abbrev pub decreases-loop-j : goal.decreases-loop-j
-decreases-loop-j l = l.n - l.j
+decreases-loop-j l = l.sheet.n - l.j

@@ -6,7 +6,7 @@ use Rattle.steps.proofs.Gathering.{Gathered}
 use Rattle.idle.proofs.some_idle.Given as goal
 
 abbrev pub invariant-loop-i : goal.invariant-loop-i
-invariant-loop-i l = (l.i ≤ l.n) × Gathered (takes_part 1 l.n l.sheet) 0 l.i true
+invariant-loop-i l = (l.i ≤ l.sheet.n) × Gathered (takes_part 1 l.sheet.n l.sheet.numbers.now) 0 l.i true
 
 abbrev pub decreases-loop-i : goal.decreases-loop-i
-decreases-loop-i l = l.n - l.i
+decreases-loop-i l = l.sheet.n - l.i

@@ -5,7 +5,7 @@ use borrow.Author.Rules.{rules}
 use Rattle.definitions.specs.Numbers.{◌⊗◌, mul_in_range}
 use Rattle.rounding.proofs.ResultRange.{product_test}
 use Rattle.rounding.proofs.Words.{zero_word}
-use Rattle.joins.proofs.ColumnSteps.{known-none, known_adds, known_skips, known-all}
+use Rattle.joins.proofs.ColumnSteps.{known-none, known_adds, known_skips}
 use Rattle.joins.proofs.column_sum.Goals as goal
 use Rattle.joins.proofs.column_sum.Goals.{then-is_known, else-is_known}
 
@@ -18,9 +18,6 @@ loop-l-preserved c =
         | else-is_known v ↦ rw (v.sum-is, v.ok-is) (known_skips h (sym c.is_known.ensures ∙ v.if-is_known.false))
       ],
     )
-
-pub returns : goal.returns
-returns c = known-all c.loop-l.invariant.1 (omega arith) (omega arith)
 
 pub loop-l-init : goal.loop-l-init
 loop-l-init c = (search rules, known-none zero_word)

@@ -10,9 +10,6 @@ use Rattle.tables.proofs.Vectors.{vector_begins, vector_turns, vector_ends}
 use Rattle.joins.specs.StageJoin.{factors_of, factors_in_range}
 use Rattle.joins.proofs.factors.Goals as goal
 
-pub put-requires : goal.put-requires
-put-requires c = (omega arith, c.loop-l.invariant.1.holds.long)
-
 pub loop-l-preserved : goal.loop-l-preserved
 loop-l-preserved c =
     let p = c.args.p in (
@@ -28,4 +25,4 @@ returns c =
     record { range = gathered_all l.invariant.2 (omega arith) (omega arith); holds = vector_ends l.invariant.1 (omega arith) (omega arith) }
 
 pub loop-l-init : goal.loop-l-init
-loop-l-init c = (search rules, vector_begins refl c.requires.4, gathered_begins refl)
+loop-l-init c = (search rules, vector_begins refl c.told-w, gathered_begins refl)

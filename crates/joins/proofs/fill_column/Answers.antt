@@ -11,11 +11,6 @@ use Rattle.compact.specs.Listing.{marked}
 use Rattle.joins.specs.StageJoin.{knows, column_row, place_in_range, column_in_range, column_filled}
 use Rattle.joins.proofs.fill_column.Goals as goal
 
-pub fill_place-place-requires : goal.fill_place-place-requires
-fill_place-place-requires c =
-    let s = c.requires in
-    (s.0, s.1, omega arith, s.2, s.3, c.loop-i.invariant.1.holds.long)
-
 pub loop-i-preserved : goal.loop-i-preserved
 loop-i-preserved c =
     let known = knows c.args.c (marked c.args.kept.now) in
@@ -33,4 +28,4 @@ returns c =
     record { range = gathered_all l.invariant.2 (omega arith) (omega arith); holds = down_ends l.invariant.1 (omega arith) (omega arith) }
 
 pub loop-i-init : goal.loop-i-init
-loop-i-init c = (search rules, down_begins refl c.requires.4, gathered_begins refl)
+loop-i-init c = (search rules, down_begins refl c.told-x, gathered_begins refl)

@@ -13,4 +13,4 @@ returns-then-is_known c =
 
 pub returns : goal.returns
 returns c =
-    place-left c.args.n c.args.c (knows c.args.c (marked c.args.kept.now)) (vector c.args.w.now) c.args.i (table c.args.x.now) (sym c.is_known.ensures ∙ c.if-is_known.false) c.requires.5 refl
+    place-left c.args.n c.args.c (knows c.args.c (marked c.args.kept.now)) (vector c.args.w.now) c.args.i (table c.args.x.now) (sym c.is_known.ensures ∙ c.if-is_known.false) c.told-x refl

@@ -8,7 +8,7 @@ use Rattle.joins.proofs.join_stage.Goals as goal
 
 pub returns-then-kept-c : goal.returns-then-kept-c
 returns-then-kept-c c =
-    due_passes c.args.n (table c.args.t.now) (vector c.args.a.now) (marked c.args.kept.now) c.args.q _ c.requires.5 (omega arith) c.if-kept-c.true
+    due_passes c.args.n (table c.args.t.now) (vector c.args.a.now) (marked c.args.kept.now) c.args.q _ c.told-x (omega arith) c.if-kept-c.true
 
 pub returns : goal.returns
 returns c =

@@ -9,22 +9,8 @@ use Rattle.rounding.proofs.ResultRange.{product_test}
 use Rattle.steps.proofs.Gathering.{gathered_begins, gathered_turns, gathered_all}
 use Rattle.tables.specs.Vectors.{vector}
 use Rattle.tables.proofs.Loops.{along_begins, along_due, along_turns, along_ends}
-use Rattle.compact.proofs.Listings.{stage-below}
 use Rattle.kept.specs.Scaled.{times, sizes_in_range}
 use Rattle.kept.proofs.scale_row.Goals as goal
-
-pub get-x-requires : goal.get-x-requires
-get-x-requires c =
-    (omega (arith, c.requires.1.room), omega (arith, c.requires.1.room), c.loop-q.invariant.1.holds.long)
-
-pub get-y-requires : goal.get-y-requires
-get-y-requires c =
-    let s = c.requires in
-    (stage-below s.1 c.loop-q-test.true c.stage-j.ensures, s.2)
-
-pub put-requires : goal.put-requires
-put-requires c =
-    (omega (arith, c.requires.1.room), omega (arith, c.requires.1.room), c.loop-q.invariant.1.holds.long)
 
 pub loop-q-preserved : goal.loop-q-preserved
 unfolding times
@@ -44,4 +30,4 @@ returns c =
     record { range = gathered_all l.invariant.2 (omega arith) (omega arith); holds = along_ends l.invariant.1 (omega arith) (omega arith) }
 
 pub loop-q-init : goal.loop-q-init
-loop-q-init c = (search rules, along_begins refl c.requires.3, gathered_begins refl)
+loop-q-init c = (search rules, along_begins refl c.told-s, gathered_begins refl)

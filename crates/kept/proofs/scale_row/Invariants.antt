@@ -12,9 +12,9 @@ use Rattle.kept.proofs.scale_row.Given as goal
 
 abbrev pub invariant-loop-q : goal.invariant-loop-q
 invariant-loop-q l =
-    (l.q ≤ l.r)
-    × Along l.p 0 (times (in_order l.stages (vector l.k)) (table l.initial.s l.p)) (table l.initial.s) l.s l.q
-    × Gathered (λ o. eqb o l.p || mul_in_range (table l.initial.s l.p o) (in_order l.stages (vector l.k) o)) 0 l.q l.ok
+    (l.q ≤ l.stages.count)
+    × Along l.p 0 (times (in_order l.stages.places (vector l.k)) (table l.initial.s l.p)) (table l.initial.s) l.s l.q
+    × Gathered (λ o. eqb o l.p || mul_in_range (table l.initial.s l.p o) (in_order l.stages.places (vector l.k) o)) 0 l.q l.ok
 
 abbrev pub decreases-loop-q : goal.decreases-loop-q
-decreases-loop-q l = l.r - l.q
+decreases-loop-q l = l.stages.count - l.q

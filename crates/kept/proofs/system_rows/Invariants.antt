@@ -9,9 +9,9 @@ use Rattle.kept.proofs.system_rows.Given as goal
 
 abbrev pub invariant-loop-p : goal.invariant-loop-p
 invariant-loop-p l =
-    (l.p ≤ l.r)
-    × Down 0 (λ o. scaled_row l.n l.r l.stages (table l.t) (vector l.k) (vector l.w) o (table l.initial.s o)) (table l.initial.s) l.s l.p
-    × Gathered (λ o. scaled_row_in_range l.n l.r l.stages (table l.t) (vector l.k) (vector l.w) o (table l.initial.s o)) 0 l.p l.ok
+    (l.p ≤ l.stages.count)
+    × Down 0 (λ o. scaled_row l.n l.stages.count l.stages.places (table l.t) (vector l.k) (vector l.w) o (table l.initial.s o)) (table l.initial.s) l.s l.p
+    × Gathered (λ o. scaled_row_in_range l.n l.stages.count l.stages.places (table l.t) (vector l.k) (vector l.w) o (table l.initial.s o)) 0 l.p l.ok
 
 abbrev pub decreases-loop-p : goal.decreases-loop-p
-decreases-loop-p l = l.r - l.p
+decreases-loop-p l = l.stages.count - l.p

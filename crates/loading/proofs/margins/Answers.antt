@@ -2,19 +2,13 @@
 use mathlib.Core.Path.{refl}
 use native.Mathlib.Omega.{arith}
 use borrow.Author.Rules.{rules}
-use Rattle.tables.proofs.Vectors.{vector_begins, vector_turns, vector_ends}
+use Rattle.tables.proofs.Vectors.{vector_begins, vector_turns}
 use Rattle.loading.proofs.LoadedRows.{as_diagonal}
 use Rattle.loading.proofs.margins.Goals as goal
 
-pub put-requires : goal.put-requires
-put-requires c = (omega (arith, c.requires.0.few), c.loop-i.invariant.1.holds.long)
-
 pub loop-i-preserved : goal.loop-i-preserved
 loop-i-preserved c =
-    (omega arith, vector_turns c.loop-i.invariant.1 c.put.ensures (as_diagonal c.args.n c.args.sheet.now c.loop-i.i c.loop-i-test.true c.number_at-x.ensures))
-
-pub returns : goal.returns
-returns c = vector_ends c.loop-i.invariant.1 (omega arith) (omega arith)
+    (omega arith, vector_turns c.loop-i.invariant.1 c.put.ensures (as_diagonal c.args.sheet.n c.args.sheet.numbers.now c.loop-i.i c.loop-i-test.true c.number_at-x.ensures))
 
 pub loop-i-init : goal.loop-i-init
-loop-i-init c = (search rules, vector_begins refl c.requires.1)
+loop-i-init c = (search rules, vector_begins refl c.told-d)

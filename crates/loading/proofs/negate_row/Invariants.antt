@@ -6,7 +6,7 @@ use Rattle.loading.specs.LoadedTable.{negated}
 use Rattle.loading.proofs.negate_row.Given as goal
 
 abbrev pub invariant-loop-j : goal.invariant-loop-j
-invariant-loop-j l = (l.j ≤ l.n) × Along l.i 0 (negated l.n l.sheet l.i) (table l.initial.t) l.t l.j
+invariant-loop-j l = (l.j ≤ l.sheet.n) × Along l.i 0 (negated l.sheet.n l.sheet.numbers.now l.i) (table l.initial.t) l.t l.j
 
 abbrev pub decreases-loop-j : goal.decreases-loop-j
-decreases-loop-j l = l.n - l.j
+decreases-loop-j l = l.sheet.n - l.j

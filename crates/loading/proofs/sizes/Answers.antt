@@ -10,11 +10,11 @@ use Rattle.loading.proofs.sizes.Goals as goal
 
 pub loop-i-preserved : goal.loop-i-preserved
 loop-i-preserved c =
-    (omega arith, down_spans 0 c.args.n (size c.args.n c.args.sheet.now) (table c.args.t.now) c.loop-i.invariant.1 c.load_row.ensures)
+    (omega arith, down_spans 0 c.args.sheet.n (size c.args.sheet.n c.args.sheet.numbers.now) (table c.args.t.now) c.loop-i.invariant.1 c.load_row.ensures)
 
 pub returns : goal.returns
 unfolding with_sizes
 returns c = down_ends c.loop-i.invariant.1 (omega arith) (omega arith)
 
 pub loop-i-init : goal.loop-i-init
-loop-i-init c = (search rules, down_begins refl c.requires.1)
+loop-i-init c = (search rules, down_begins refl c.told-t)

@@ -7,7 +7,7 @@ use Rattle.tables.proofs.Loops.{Down}
 use Rattle.loading.proofs.sizes.Given as goal
 
 abbrev pub invariant-loop-i : goal.invariant-loop-i
-invariant-loop-i w = (w.i ≤ w.n) × Down 0 (λ l. between 0 w.n (size w.n w.sheet l) (table w.initial.t l)) (table w.initial.t) w.t w.i
+invariant-loop-i w = (w.i ≤ w.sheet.n) × Down 0 (λ l. between 0 w.sheet.n (size w.sheet.n w.sheet.numbers.now l) (table w.initial.t l)) (table w.initial.t) w.t w.i
 
 abbrev pub decreases-loop-i : goal.decreases-loop-i
-decreases-loop-i l = l.n - l.i
+decreases-loop-i l = l.sheet.n - l.i

@@ -9,21 +9,11 @@ use mathlib.Core.Bool.{not}
 use Rattle.margins.proofs.solve_margins.Goals as goal
 
 pub fill-ratios-requires : goal.fill-ratios-requires
-fill-ratios-requires c = let s = c.requires in (s.0, s.1, s.2, refl, record { long = refl; is = zero-vector 32 zero_word }, refl)
-
-pub solve_kept-requires : goal.solve_kept-requires
-solve_kept-requires c =
-    let s = c.requires in
-    (s.0, s.1, s.2, c.fill-ratios.ensures.vectors, s.3)
+fill-ratios-requires c = (c.requires, record { long = refl; is = zero-vector 32 zero_word })
 
 pub returns-then-not-solve_kept : goal.returns-then-not-solve_kept
 returns-then-not-solve_kept c =
     kept_fails c.fill-ratios.ensures c.solve_kept.ensures (not-true c.solve_kept.result (ap not c.if-not-solve_kept.true))
-
-pub join_stages-joined-requires : goal.join_stages-joined-requires
-join_stages-joined-requires c =
-    let s = c.requires in
-    (s.0, s.1, c.fill-ratios.ensures.vectors.a_is.long, c.fill-ratios.ensures.vectors.kept_is.long, c.solve_kept.ensures.long)
 
 pub returns : goal.returns
 returns c =

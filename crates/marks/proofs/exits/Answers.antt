@@ -20,7 +20,7 @@ unfolding leaves
 exit_is n sheet i l h = rw (zero_word, h, diagonal-at n sheet i l)
 
 pub loop-i-init : goal.loop-i-init
-loop-i-init c = (zero-le, first_stage _ _ (none-marked c.requires.few refl refl))
+loop-i-init c = (zero-le, first_stage _ _ (none-marked c.args.sheet.square.few refl refl))
 
 pub overflow_add-next : goal.overflow_add-next
 overflow_add-next c = omega (arith, marked_few c.loop-i.invariant.1)

@@ -7,7 +7,7 @@ use Rattle.marks.proofs.Marking.{before}
 use Rattle.marks.proofs.exits.Given as goal
 
 abbrev pub invariant-loop-i : goal.invariant-loop-i
-invariant-loop-i l = (l.i ≤ l.n) × Marked (before (λ k. false) (leaves l.n l.sheet) l.i) l.n l.next
+invariant-loop-i l = (l.i ≤ l.sheet.n) × Marked (before (λ k. false) (leaves l.sheet.n l.sheet.numbers.now) l.i) l.sheet.n l.next
 
 abbrev pub decreases-loop-i : goal.decreases-loop-i
-decreases-loop-i l = l.n - l.i
+decreases-loop-i l = l.sheet.n - l.i

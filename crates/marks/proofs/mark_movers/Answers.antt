@@ -30,16 +30,15 @@ overflow_add-next c = omega (arith, marked_few c.loop-i.invariant.1)
 
 pub loop-i-preserved : goal.loop-i-preserved
 loop-i-preserved c =
-    let pre = c.requires in
     let l = c.loop-i-test.true in (
       omega arith,
       elim c.if-not-next-i.branch [
-        | then-not-next-i+then-i-j w ↦ mark_stage _ _ c.loop-i.invariant.1 l (omega arith) (not-true _ (ap not w.if-not-next-i.true)) (sym (move_is _ _ _ _ l pre.1 w.number_at.ensures) ∙ w.if-i-j.true) (ap (λ m. m.marked) w.next-is) (ap (λ m. m.count) w.next-is)
+        | then-not-next-i+then-i-j w ↦ mark_stage _ _ c.loop-i.invariant.1 l (omega arith) (not-true _ (ap not w.if-not-next-i.true)) (sym (move_is _ _ _ _ l c.requires.0 w.number_at.ensures) ∙ w.if-i-j.true) (ap (λ m. m.marked) w.next-is) (ap (λ m. m.count) w.next-is)
         | else-not-next-i w ↦
             -- stage i is marked already, or does not move to j
             rw w.next-is (leave_stage _ _ c.loop-i.invariant.1 l (λ t.
             elim w.else-not-next-i.branch [
-              | else-not-next-i-via-then-not-next-i+else-i-j v ↦ absurd (contrary _ t (sym (move_is _ _ _ _ l pre.1 v.number_at.ensures) ∙ v.if-i-j.false))
+              | else-not-next-i-via-then-not-next-i+else-i-j v ↦ absurd (contrary _ t (sym (move_is _ _ _ _ l c.requires.0 v.number_at.ensures) ∙ v.if-i-j.false))
               | else-not-next-i-via-else-not-next-i v ↦ not-false _ (ap not v.if-not-next-i.false)
             ]))
       ],
@@ -49,4 +48,4 @@ pub returns : goal.returns
 returns c = last-stage _ _ c.loop-i.invariant.0 c.loop-i-test.false c.loop-i.invariant.1
 
 pub loop-i-init : goal.loop-i-init
-loop-i-init c = (zero-le, first_stage _ _ c.requires.2)
+loop-i-init c = (zero-le, first_stage _ _ c.requires.1)

@@ -1,4 +1,5 @@
 -- `moving::has_room` meets its contract. Assumes nothing.
+use Rattle.std.proofs.Common.{rules}
 use mathlib.Core.Path.{◌∙◌}
 use mir.Syntax.{w64}
 use mir.ValLaws.{to_z-of_z}
@@ -8,7 +9,7 @@ use Rattle.moving.proofs.has_room.Goals as goal
 pub returns-then-k-lt0 : goal.returns-then-k-lt0
 returns-then-k-lt0 c =
     c.sizes_within.ensures
-    ∙ by_least c.args.numbers.now c.args.k c.requires c.shared_slice_known-1.given
+    ∙ by_least c.args.numbers.now c.args.k c.requires (search rules)
     (rw (to_z-of_z w64 c.args.k c.ranges.k) at c.if-k-lt0.true)
 
 pub returns : goal.returns

@@ -15,7 +15,7 @@ returns-then-has_room c =
     let same = to_z-of_z w64 c.args.k c.ranges.k in
     let rates = c.args.rates.now in
     let room = sym c.if-has_room.true ∙ (rw same at c.has_room.ensures) in
-    let first = rates_written c.requires.0 c.shared_slice_known-1.given c.args.area.now (rw same at c.power_of_two-power.ensures) (sym room) c.times_power.ensures in
+    let first = rates_written c.requires.0 (search rules) c.args.area.now (rw same at c.power_of_two-power.ensures) (sym room) c.times_power.ensures in
     record { value = room; area_after = both_written (map (λ number. times_power c.args.k number) rates) c.args.weights.now c.args.area.now (sym (length-map rates (λ number. times_power c.args.k number))) first (search rules) }
 
 pub returns : goal.returns

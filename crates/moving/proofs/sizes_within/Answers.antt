@@ -9,22 +9,15 @@ use Rattle.rounding.specs.ResultRange.{size_within}
 use Rattle.steps.proofs.All.{all_more}
 use Rattle.moving.proofs.sizes_within.Goals as goal
 
-pub loop-at-init : goal.loop-at-init
+pub loop-number-init : goal.loop-number-init
 unfolding all
-loop-at-init c = (omega arith, refl)
+loop-number-init c = refl
 
-pub loop-at-preserved : goal.loop-at-preserved
-loop-at-preserved c =
-    let held = c.loop-at.invariant in
-    let more = c.loop-at-test.true in
-    (omega arith, all_more (λ at. size_within c.args.least c.args.most (get_or c.args.numbers.now at nan)) c.loop-at.at held.1 c.size_within-good.ensures)
+pub loop-number-preserved : goal.loop-number-preserved
+loop-number-preserved c =
+    all_more (λ at. size_within c.args.least c.args.most (get_or c.args.numbers.now at nan)) c.loop-number.number-index c.loop-number.invariant c.size_within-good.ensures
 
 pub returns : goal.returns
 returns c =
-    let held = c.loop-at.invariant in
-    let end = c.loop-at-test.false in
-    let whole : c.loop-at.at ≡ length c.args.numbers.now = omega arith in
-    held.1 ∙ ap (λ (m : ℕ). all (λ at. size_within c.args.least c.args.most (get_or c.args.numbers.now at nan)) 0 m) whole
-
-pub size_within-good-requires : goal.size_within-good-requires
-size_within-good-requires c = tt
+    let whole : c.loop-number.number-index ≡ length c.args.numbers.now = omega arith in
+    c.loop-number.invariant ∙ ap (λ (m : ℕ). all (λ at. size_within c.args.least c.args.most (get_or c.args.numbers.now at nan)) 0 m) whole

@@ -1,14 +1,10 @@
 -- `moving::sizes_within` meets its contract. The loop's invariant: the flag tells of the numbers so far. Assumes nothing.
 use mathlib.Core.Path.{◌≡◌}
-use Prim.Native.Nat.{◌-◌, ◌≤◌}
-use lib.ListN.{length, get_or}
+use lib.ListN.{get_or}
 use lib.Ieee.{nan}
 use Rattle.definitions.specs.Numbers.{all}
 use Rattle.rounding.specs.ResultRange.{size_within}
 use Rattle.moving.proofs.sizes_within.Given as goal
 
-abbrev pub invariant-loop-at : goal.invariant-loop-at
-invariant-loop-at l = (l.at ≤ length l.numbers) × (l.good ≡ all (λ at. size_within l.least l.most (get_or l.numbers at nan)) 0 l.at)
-
-abbrev pub decreases-loop-at : goal.decreases-loop-at
-decreases-loop-at l = length l.numbers - l.at
+abbrev pub invariant-loop-number : goal.invariant-loop-number
+invariant-loop-number l = l.good ≡ all (λ at. size_within l.least l.most (get_or l.numbers at nan)) 0 l.number-index

@@ -10,17 +10,6 @@ pub returns-then-weights-eq0 : goal.returns-then-weights-eq0
 returns-then-weights-eq0 c =
     plain_begun c.args.r c.args.k (table c.args.t.now) c.get-s.ensures c.args.weights.now (omega arith) c.later_sizes.ensures c.is_finite-ok.ensures
 
-pub later_products-sum-requires : goal.later_products-sum-requires
-later_products-sum-requires c =
-    let p = c.requires in
-    (p.0, p.1, p.2 (omega arith), p.3)
-
-pub bounds-weights-k : goal.bounds-weights-k
-bounds-weights-k c =
-    let p = c.requires in
-    let enough = p.2 (omega arith) in
-    omega arith
-
 pub returns : goal.returns
 returns c =
     weighed-begun c.args.r c.args.k (table c.args.t.now) c.get-s.ensures c.args.weights.now (omega arith) c.later_products-sum.ensures.0 c.later_products-sum.ensures.1

@@ -1,4 +1,7 @@
 -- `planner::entry_of_sheet` meets its contract. Assumes nothing.
+use Rattle.std.specs.Prelude.{Err}
+use Rattle.std.proofs.Common.{rules}
+use mathlib.Core.Path.{ap}
 use native.Mathlib.Omega.{arith}
 use Prim.Native.Nat.{◌≤◌}
 use Rattle.rounding.proofs.Words.{zero_word}
@@ -23,17 +26,19 @@ overflow_sub-j c = let p = stages (goal.at.overflow_sub-j c).Start in omega (ari
 pub get-requires : goal.get-requires
 get-requires c =
     let p = stages (goal.at.get-requires c).Start in
-    (omega (arith, p.0.few, p.1, p.2), omega (arith, p.0.few, p.1, p.2), c.steps.ensures.long)
-
-pub returns-then-steps : goal.returns-then-steps
-unfolding Binary64
-returns-then-steps c =
-    let known = c.shared_slice_known-1.given in
-    entry_given_lem c.args.reading c.args.n c.args.e c.args.sheet.now c.args.i c.args.j c.requires c.steps.ensures known c.if-steps.true c.get.ensures
+    (omega (arith, p.0.few, p.1, p.2), omega (arith, p.0.few, p.1, p.2))
 
 pub returns : goal.returns
+unfolding Binary64
 returns c =
-    entry_out_of_range c.args.reading c.args.n c.args.e c.args.sheet.now c.args.i c.args.j c.requires c.steps.ensures c.if-steps.false
+    entry_given_lem c.args.reading c.args.n c.args.e c.args.sheet.now c.args.i c.args.j c.requires (rw (c.new.ensures.0, c.new.ensures.1, c.new.ensures.2) at c.steps.ensures) (search rules) (search rules) c.get.ensures
+
+pub returns-then-not-steps : goal.returns-then-not-steps
+returns-then-not-steps c =
+    entry_out_of_range c.args.reading c.args.n c.args.e c.args.sheet.now c.args.i c.args.j c.requires (rw (c.new.ensures.0, c.new.ensures.1, c.new.ensures.2) at c.steps.ensures) (ap (λ r. Err r) c.into.ensures) c.if-not-steps.true
 
 pub steps-requires : goal.steps-requires
-steps-requires c = ((stages (goal.at.steps-requires c).Start).0, new_table zero_word)
+steps-requires c = new_table zero_word
+
+pub new-requires : goal.new-requires
+new-requires c = (stages (goal.at.new-requires c).Start).0

@@ -1,4 +1,6 @@
 -- `planner::table_of_sheet` meets its contract. Assumes nothing.
+use Rattle.std.specs.Prelude.{Err}
+use mathlib.Core.Path.{ap}
 use native.Mathlib.Omega.{arith}
 use borrow.Author.Rules.{rules}
 use lib.ListN.{length}
@@ -19,20 +21,22 @@ input s = table-input-passed s.args.reading s.args.n s.args.e s.args.sheet.now (
 pub write-requires : goal.write-requires
 write-requires c =
     let p = input (goal.at.write-requires c).Start in
-    (omega (arith, p.0.few), omega (arith, p.1), c.steps.ensures.long)
+    (omega (arith, p.0.few), omega (arith, p.1))
 
 pub allowance_of-requires : goal.allowance_of-requires
 allowance_of-requires c = (input (goal.at.allowance_of-requires c).Start).0.few
 
-pub returns-then-steps : goal.returns-then-steps
-unfolding Binary64
-returns-then-steps c =
-    let known = c.shared_slice_known-1.given in
-    table_given c.args.reading c.args.n c.args.e c.args.sheet.now c.args.answer.now c.requires c.steps.ensures known c.if-steps.true c.write.ensures c.allowance_of.ensures
-
 pub returns : goal.returns
+unfolding Binary64
 returns c =
-    table_out_of_range c.args.reading c.args.n c.args.e c.args.sheet.now c.args.answer.now c.requires c.steps.ensures (search rules)
+    table_given c.args.reading c.args.n c.args.e c.args.sheet.now c.args.answer.now c.requires (rw (c.new.ensures.0, c.new.ensures.1, c.new.ensures.2) at c.steps.ensures) (search rules) c.if-not-steps.false c.write.ensures c.allowance_of.ensures
+
+pub returns-then-not-steps : goal.returns-then-not-steps
+returns-then-not-steps c =
+    table_out_of_range c.args.reading c.args.n c.args.e c.args.sheet.now c.args.answer.now c.requires (rw (c.new.ensures.0, c.new.ensures.1, c.new.ensures.2) at c.steps.ensures) (ap (λ r. Err r) c.into.ensures) (search rules)
 
 pub steps-requires : goal.steps-requires
-steps-requires c = ((input (goal.at.steps-requires c).Start).0, new_table zero_word)
+steps-requires c = new_table zero_word
+
+pub new-requires : goal.new-requires
+new-requires c = (input (goal.at.new-requires c).Start).0

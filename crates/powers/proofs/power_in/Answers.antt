@@ -4,16 +4,11 @@ use native.Mathlib.Omega.{arith}
 use lib.IntN.{pos, ◌+ℤ◌}
 use mir.Syntax.{w64}
 use mir.ValLaws.{to_z-of_z}
-use Rattle.powers.proofs.Place.{place-below}
-use Rattle.powers.proofs.Doubling.{in_table, rule_gives_powers}
+use Rattle.powers.proofs.Doubling.{place-below, in_table, rule_gives_powers}
 use Rattle.powers.proofs.power_in.Goals as goal
 use Rattle.powers.proofs.power_in.Goals.{After-place_of-at}
 
 -- k is handed over by its bits, which mean k.
-pub place_of-at-requires : goal.place_of-at-requires
-place_of-at-requires c =
-    rw (to_z-of_z w64 c.args.k c.ranges.k) c.requires.1
-
 at_place : (c : goal.After-place_of-at) → pos c.place_of-at.result ≡ c.args.k +ℤ pos 512
 at_place c =
     rw (to_z-of_z w64 c.args.k c.ranges.k) at c.place_of-at.ensures

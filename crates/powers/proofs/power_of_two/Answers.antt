@@ -11,7 +11,3 @@ pub power_in-requires : goal.power_in-requires
 unfolding of_bits times_power same_number doubles doubling_rule
 power_in-requires c =
     (tt, rw (to_z-of_z w64 c.args.k c.ranges.k) c.requires)
-
-pub returns : goal.returns
-returns c =
-    rw (to_z-of_z w64 c.args.k c.ranges.k) at c.power_in.ensures

@@ -1,5 +1,7 @@
 -- `price_planner::prices_of_sheet` meets its contract. Assumes nothing.
-use mathlib.Core.Path.{◌≡◌, refl}
+use Rattle.std.specs.Prelude.{Err}
+use Rattle.std.proofs.Common.{rules}
+use mathlib.Core.Path.{ap, sym, ◌≡◌, ◌∙◌}
 use native.Mathlib.Omega.{arith}
 use lib.ListN.{length}
 use Prim.Native.Nat.{◌≤◌}
@@ -21,22 +23,25 @@ input s =
     (then_first (price_input s.args.reading s.args.n s.args.e s.args.sheet.now (length given) room) (question19 s.args.n given) s.requires)
 
 pub steps-requires : goal.steps-requires
-steps-requires c = let p = input (goal.at.steps-requires c).Start in (p.0, p.2, refl)
+steps-requires c = (input (goal.at.steps-requires c).Start).2 ∙ sym c.new.ensures.1
+
+pub new-requires : goal.new-requires
+new-requires c = (input (goal.at.new-requires c).Start).0
 
 pub write_column-requires : goal.write_column-requires
 write_column-requires c =
     let p = input (goal.at.write_column-requires c).Start in
-    (omega (arith, p.0.few), omega (arith, p.1), c.steps.ensures.long)
+    (omega (arith, p.0.few), omega (arith, p.1))
 
 pub allowance_of_prices-requires : goal.allowance_of_prices-requires
 allowance_of_prices-requires c = (input (goal.at.allowance_of_prices-requires c).Start).0.few
 
-pub returns-then-steps : goal.returns-then-steps
-unfolding Binary64
-returns-then-steps c =
-    prices_given c.args.reading c.args.n c.args.e c.args.sheet.now c.args.prices.now c.args.answer.now c.requires c.steps.ensures
-    c.shared_slice_known-1.given c.shared_slice_known-2-1.given c.if-steps.true c.write_column.ensures c.allowance_of_prices.ensures
-
 pub returns : goal.returns
+unfolding Binary64
 returns c =
-    prices_out_of_range c.args.reading c.args.n c.args.e c.args.sheet.now c.args.prices.now c.args.answer.now c.requires c.steps.ensures c.if-steps.false
+    prices_given c.args.reading c.args.n c.args.e c.args.sheet.now c.args.prices.now c.args.answer.now c.requires (rw (c.new.ensures.0, c.new.ensures.1, c.new.ensures.2) at c.steps.ensures)
+    (search rules) (search rules) c.if-not-steps.false c.write_column.ensures c.allowance_of_prices.ensures
+
+pub returns-then-not-steps : goal.returns-then-not-steps
+returns-then-not-steps c =
+    prices_out_of_range c.args.reading c.args.n c.args.e c.args.sheet.now c.args.prices.now c.args.answer.now c.requires (rw (c.new.ensures.0, c.new.ensures.1, c.new.ensures.2) at c.steps.ensures) (ap (λ r. Err r) c.into.ensures) c.if-not-steps.true

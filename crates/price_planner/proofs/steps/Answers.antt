@@ -9,11 +9,11 @@ use Rattle.price_planner.proofs.steps.Goals as goal
 
 pub returns-then-not-steps : goal.returns-then-not-steps
 returns-then-not-steps c =
-    table_fails _ _ _ _ c.steps.ensures (not-true c.steps.result (ap not c.if-not-steps.true)) c.requires.2
+    table_fails _ _ _ _ c.steps.ensures (not-true c.steps.result (ap not c.if-not-steps.true)) c.told-p
 
 pub returns : goal.returns
 returns c =
     prices_stepped _ _ _ _ c.steps.ensures (not-false c.steps.result (ap not c.if-not-steps.false)) c.request_prices.ensures
 
 pub steps-requires : goal.steps-requires
-steps-requires c = (c.requires.0, new_table zero_word)
+steps-requires c = new_table zero_word

@@ -2,8 +2,7 @@
 use mathlib.Core.Path.{◌∙◌}
 use mathlib.Core.Bool.{Bool}
 use mathlib.Core.List.{List}
-use Prim.Native.Nat.{ℕ, zero-le}
-use native.Mathlib.Omega.{arith}
+use Prim.Native.Nat.{ℕ}
 use lib.Ieee.{Float}
 use Rattle.exact.proofs.Bools.{denied, granted}
 use Rattle.definitions.specs.Prices.{unit_price, good_price, question19}
@@ -18,17 +17,17 @@ good prices j = good_price (unit_price prices j)
 
 pub loop-j-init : goal.loop-j-init
 unfolding question19
-loop-j-init c = (zero-le, all-stages _ _ _)
+loop-j-init c = all-stages _ _ _
 
 pub returns-then-not-good_price : goal.returns-then-not-good_price
 unfolding unit_price
 returns-then-not-good_price c =
-    no (λ z. omega arith) (c.loop-j.invariant.1 ∙ bad_stage _ _ _ _ c.loop-j-test.true (denied _ _ c.good_price.ensures (ap not c.if-not-good_price.true)))
+    no (c.loop-j.invariant ∙ bad_stage _ _ _ _ c.loop-j-test.true (denied _ _ c.good_price.ensures (ap not c.if-not-good_price.true)))
 
 pub loop-j-preserved : goal.loop-j-preserved
 unfolding unit_price
 loop-j-preserved c =
-    (omega (arith, c.loop-j-test.true), c.loop-j.invariant.1 ∙ good-stage _ _ _ _ c.loop-j-test.true (granted _ _ c.good_price.ensures (ap not c.if-not-good_price.false)))
+    c.loop-j.invariant ∙ good-stage _ _ _ _ c.loop-j-test.true (granted _ _ c.good_price.ensures (ap not c.if-not-good_price.false))
 
 pub returns : goal.returns
-returns c = all_pass (c.loop-j.invariant.1 ∙ no_stage _ _ _ _ c.loop-j-test.false)
+returns c = all_pass (c.loop-j.invariant ∙ no_stage _ _ _ _ c.loop-j-test.false)

@@ -2,7 +2,7 @@
 use mathlib.Core.Path.{◌≡◌}
 use mathlib.Core.Bool.{Bool}
 use mathlib.Core.List.{List}
-use Prim.Native.Nat.{ℕ, ◌≤◌, ◌-◌}
+use Prim.Native.Nat.{ℕ}
 use lib.ListN.{length}
 use lib.Ieee.{Float}
 use Rattle.definitions.specs.Prices.{unit_price, good_price, question19}
@@ -13,7 +13,4 @@ abbrev pub good : List Float → ℕ → Bool
 good prices j = good_price (unit_price prices j)
 
 abbrev pub invariant-loop-j : goal.invariant-loop-j
-invariant-loop-j l = (l.j ≤ length l.prices) × (question19 (length l.prices) l.prices ≡ from_stage (good l.prices) 19 (length l.prices) l.j)
-
-abbrev pub decreases-loop-j : goal.decreases-loop-j
-decreases-loop-j l = length l.prices - l.j
+invariant-loop-j l = question19 (length l.prices) l.prices ≡ from_stage (good l.prices) 19 (length l.prices) l.j

@@ -24,4 +24,4 @@ returns c =
     }
 
 pub loop-i-init : goal.loop-i-init
-loop-i-init c = (search rules, vector_begins refl c.requires.3)
+loop-i-init c = (search rules, vector_begins refl c.told-p)

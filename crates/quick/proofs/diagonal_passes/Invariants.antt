@@ -1,12 +1,9 @@
 -- `quick::diagonal_passes` meets its contract. Assumes nothing.
-use Prim.Native.Nat.{ℕ, ◌≤◌, ◌<◌, ◌-◌}
+use Prim.Native.Nat.{ℕ, ◌<◌}
 use lib.Dec.{T}
 use Rattle.definitions.specs.Sheet.{place}
 use Rattle.quick.specs.QuickPass.{PassesOn}
 use Rattle.quick.proofs.diagonal_passes.Given as goal
 
 abbrev pub invariant-loop-i : goal.invariant-loop-i
-invariant-loop-i l = (l.i ≤ l.n) × (T l.good → (k : ℕ) → k < l.i → PassesOn l.reading (place l.n l.sheet k k))
-
-abbrev pub decreases-loop-i : goal.decreases-loop-i
-decreases-loop-i l = l.n - l.i
+invariant-loop-i l = T l.good → (k : ℕ) → k < l.i → PassesOn l.reading (place l.sheet.n l.sheet.numbers.now k k)

@@ -4,7 +4,7 @@ use native.Mathlib.Omega.{arith}
 use borrow.Author.Count.{below_more}
 use borrow.Author.Rules.{rules}
 use Rattle.tables.specs.RowMajor.{table}
-use Rattle.steps.proofs.Gathering.{gathered_begins, gathered_turns, gathered_ends}
+use Rattle.steps.proofs.Gathering.{gathered_begins, gathered_turns}
 use Rattle.ranges.proofs.Multiples.{quick_at_lem}
 use Rattle.ranges.proofs.row_quick.Goals as goal
 
@@ -14,6 +14,3 @@ loop-k-init c = (search rules, gathered_begins refl, λ a l m. let z : ⊥ = ome
 pub loop-k-preserved : goal.loop-k-preserved
 loop-k-preserved c =
     (omega arith, gathered_turns c.loop-k.invariant.1 (quick_at_lem (table c.args.t.now c.args.i) c.loop-k.k c.get-m.ensures c.quick-step.ensures), below_more _ _ c.loop-k.invariant.2 (λ _. rw c.get-m.ensures at c.quick-step.ensures.held))
-
-pub returns : goal.returns
-returns c = let v = c.loop-k.invariant in record { is = gathered_ends v.1 (omega arith) (omega arith); held = λ k l m. v.2 k (omega arith) l }

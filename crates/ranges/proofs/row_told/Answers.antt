@@ -14,11 +14,11 @@ returns-then-x c own e =
 pub returns-then-above : goal.returns-then-above
 returns-then-above c own e =
     let f = table c.args.t.now in
-    bounded_row c.args.r c.args.k c.args.i c.args.p own (f c.args.k) c.requires.0 c.requires.1 (rw (← e) at c.requires.4)
-    c.args.lo (rw c.well_formed.1.1.1.1.0.1 tt) c.requires.5 (rw (← c.above.ensures, c.if-above.true) tt)
+    bounded_row c.args.r c.args.k c.args.i c.args.p own (f c.args.k) c.requires.0 c.requires.1 (rw (← e) at c.requires.3)
+    c.args.lo (rw c.well_formed.1.1.1.1.0.1 tt) c.requires.4 (rw (← c.above.ensures, c.if-above.true) tt)
 
 pub returns : goal.returns
 returns c own e =
     let f = table c.args.t.now in
-    tested_row c.args.r c.args.k c.args.i c.args.p own (f c.args.k) c.requires.0 c.requires.1 (rw (← e) at c.requires.4)
-    (c.get-x.ensures ∙ sym e) (c.result_in_range-multiplier.ensures ∙ rw (c.requires.4, ← c.get-x.ensures) (quotient_test c.get-x.result c.args.p)) c.products_in_range-left.ensures c.products_in_range-right.ensures
+    tested_row c.args.r c.args.k c.args.i c.args.p own (f c.args.k) c.requires.0 c.requires.1 (rw (← e) at c.requires.3)
+    (c.get-x.ensures ∙ sym e) (c.result_in_range-multiplier.ensures ∙ rw (c.requires.3, ← c.get-x.ensures) (quotient_test c.get-x.result c.args.p)) c.products_in_range-left.ensures c.products_in_range-right.ensures

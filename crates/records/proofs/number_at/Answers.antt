@@ -1,35 +1,16 @@
--- `records::number_at` meets its contract. The loop's invariant: the number in the last k bytes. Assumes nothing.
-use Prim.Native.Nat.{ℕ, ◌+◌, ◌*◌, ◌^◌, ◌<◌}
-use native.Mathlib.Omega.{arith}
-use lib.ListN.{get_or}
-use Rattle.records.proofs.Little.{no_bytes, one_byte_more, all-bytes, byte_fits, byte_added}
+-- `records::number_at` meets its contract: the number of eight bytes, with zeros above those of the width. Assumes nothing.
+use Rattle.std.proofs.Common.{rules, ◌≡◌, ◌-◌, ◌++◌, drop}
+use Rattle.std.proofs.lemmas.List.{drop-replicate}
+use Rattle.std.specs.Int.{from_le_bytes, w64}
+use lib.ListN.{replicate, take}
+use Rattle.definitions.specs.File.{little}
+use Rattle.records.proofs.Little.{eight_bytes, zeros_above}
 use Rattle.records.proofs.number_at.Goals as goal
-use Rattle.records.proofs.number_at.Goals.{After-shared_slice_known-1}
-
-pub loop-k-init : goal.loop-k-init
-loop-k-init c = (omega arith, no_bytes c.args.bytes.now c.args.at c.args.width)
-
--- Every byte is below 256, and one more fits.
-small : (c : goal.After-shared_slice_known-1) (i : ℕ) → get_or c.args.bytes.now i 0 < 256
-small c i = omega (arith, c.shared_slice_known-1.given i)
-
-fits : (c : goal.After-shared_slice_known-1) → 255 + 256 * c.loop-k.number < 2 ^ 64
-fits c =
-    let l = c.loop-k in
-    byte_fits c.args.bytes.now c.args.at c.args.width (small c) l.k l.number (omega arith) l.invariant.1
-
-pub overflow_add-number-in-loop-k : goal.overflow_add-number-in-loop-k
-overflow_add-number-in-loop-k c = record { fits = byte_added c.loop-k.number (small c _) (fits c) }
-
-pub loop-k-preserved : goal.loop-k-preserved
-loop-k-preserved c =
-    let l = c.loop-k in
-    (omega arith, one_byte_more c.args.bytes.now c.args.at c.args.width l.k l.number c.loop-k-test.true (omega arith) l.invariant.1)
 
 pub returns : goal.returns
 returns c =
-    let l = c.loop-k in
-    all-bytes c.args.bytes.now c.args.at c.args.width l.k l.number l.invariant.0 c.loop-k-test.false l.invariant.1
-
-pub overflow_mul-number : goal.overflow_mul-number
-overflow_mul-number c = omega (arith, fits c)
+    let width = c.args.width in
+    let read = drop c.args.at c.args.bytes.now in
+    let word : from_le_bytes w64 (take width read ++ drop width (replicate 8 0)) ≡ little width read =
+    rw (eight_bytes, drop-replicate) (zeros_above width 8 (8 - width) read c.requires.0) in
+    rw (← word) (search rules)

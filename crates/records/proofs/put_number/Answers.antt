@@ -3,6 +3,7 @@ use Prim.Native.Nat.{ℕ, ◌+◌, ◌/◌, ◌%◌, ◌<◌}
 use mathlib.Core.List.{List, [], ◌∷◌}
 use mathlib.Core.Path.{◌≡◌, ap, ◌∙◌}
 use native.Mathlib.Omega.{arith}
+use Rattle.std.proofs.Common.{rules}
 use Rattle.definitions.specs.Saving.{little_bytes}
 use Rattle.buffer.specs.Pasted.{Room, Written}
 use Rattle.buffer.proofs.Growing.{Turn, turn}
@@ -15,22 +16,17 @@ byte_turn : (number width : ℕ) {rest at k next : ℕ} {out last : List ℕ} �
 byte_turn number width room due left so_far =
     rw left (turn (λ k. little_bytes k number) (λ k. after k number % 256 ∷ []) width (λ k h. little_grows number k) room due so_far)
 
-pub loop-done-init : goal.loop-done-init
-loop-done-init c = (omega arith, after_none _, little-begun _ _ _)
+pub loop-init : goal.loop-init
+loop-init c = (after_none _, little-begun _ _ _)
 
 pub put_byte-next-requires : goal.put_byte-next-requires
 put_byte-next-requires c =
-    (byte_turn c.args.number c.args.width c.requires c.loop-done-test.true c.loop-done.invariant.1 c.loop-done.invariant.2).room
+    let inv = c.loop.invariant in
+    record { within = omega (arith, (byte_turn c.args.number c.args.width c.requires (omega arith) inv.0 inv.1).room.within) }
 
-pub loop-done-preserved : goal.loop-done-preserved
-loop-done-preserved c =
-    let inv = c.loop-done.invariant in (
-      omega arith,
-      ap (λ m. m / 256) inv.1 ∙ after-one_more c.loop-done.done c.args.number,
-      (byte_turn c.args.number c.args.width c.requires c.loop-done-test.true inv.1 inv.2).written c.put_byte-next.ensures,
+pub loop-preserved : goal.loop-preserved
+loop-preserved c =
+    let inv = c.loop.invariant in (
+      ap (λ m. m / 256) inv.0 ∙ after-one_more c.loop.counter c.args.number,
+      (byte_turn c.args.number c.args.width c.requires (omega arith) inv.0 inv.1).written (search rules),
     )
-
-pub returns : goal.returns
-returns c =
-    let all : c.loop-done.done ≡ c.args.width = omega arith in
-    rw all at c.loop-done.invariant.2

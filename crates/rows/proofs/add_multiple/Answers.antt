@@ -3,7 +3,7 @@ use mathlib.Core.Path.{refl, ◌∙◌}
 use native.Mathlib.Omega.{arith}
 use borrow.Author.Rules.{rules}
 use Rattle.tables.specs.RowMajor.{table}
-use Rattle.tables.proofs.Loops.{along_begins, along_due, along_else, along_turns, along_ends}
+use Rattle.tables.proofs.Loops.{along_begins, along_due, along_else, along_turns}
 use Rattle.tables.proofs.Rows.{plus_multiple_lem}
 use Rattle.rows.proofs.add_multiple.Goals as goal
 
@@ -13,8 +13,5 @@ loop-j-preserved c =
     let h = c.loop-j.invariant.1 in
     (omega arith, along_turns h c.put.ensures (plus_multiple_lem c.loop-j.j (f c.args.i) (c.get-x.ensures ∙ along_due h) c.args.m (f c.args.k) (c.get-y.ensures ∙ along_else h c.args.k c.loop-j.j c.requires.2)))
 
-pub returns : goal.returns
-returns c = along_ends c.loop-j.invariant.1 (omega arith) (omega arith)
-
 pub loop-j-init : goal.loop-j-init
-loop-j-init c = (search rules, along_begins refl c.requires.5)
+loop-j-init c = (search rules, along_begins refl c.told-a)

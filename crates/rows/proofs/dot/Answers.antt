@@ -5,18 +5,13 @@ use borrow.Author.Rules.{rules}
 use Rattle.definitions.specs.Numbers.{◌⊗◌}
 use Rattle.rounding.proofs.Words.{zero_word}
 use Rattle.rounding.proofs.ResultRange.{product_test}
-use Rattle.steps.proofs.Gathering.{gathered_begins, gathered_turns, gathered_ends, summed_begins, summed_turns, summed_ends}
+use Rattle.steps.proofs.Gathering.{gathered_begins, gathered_turns, summed_begins, summed_turns}
 use Rattle.rows.proofs.dot.Goals as goal
 
 pub loop-j-preserved : goal.loop-j-preserved
 loop-j-preserved c =
     let l = c.loop-j in
     (omega arith, summed_turns l.invariant.1 (ap₂ ◌⊗◌ c.get-x.ensures c.get-y.ensures), gathered_turns l.invariant.2 (c.result_in_range-step.ensures ∙ product_test c.get-x.result c.get-y.result ∙ rw (c.get-x.ensures, c.get-y.ensures)))
-
-pub returns : goal.returns
-returns c =
-    let l = c.loop-j in
-    record { sums = summed_ends l.invariant.1 (omega arith) (omega arith); tests = gathered_ends l.invariant.2 (omega arith) (omega arith) }
 
 pub loop-j-init : goal.loop-j-init
 loop-j-init c = (search rules, summed_begins refl zero_word, gathered_begins refl)

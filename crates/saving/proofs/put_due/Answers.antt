@@ -1,20 +1,21 @@
--- `saving::put_due` meets its contract. Assumes nothing.
-use native.Mathlib.Omega.{arith}
-use Rattle.saving.proofs.FileBytes.{weights_due, row_due}
+-- `saving::put_due` meets its contract: a row, or the weights, is the record that is due. Assumes nothing.
+use Rattle.std.proofs.Common.{rules}
+use Rattle.definitions.specs.Saving.{little_bytes, record_bytes, row_bytes, weight_bytes, bytes_due}
+use Rattle.saving.proofs.FileBytes.{lengths}
 use Rattle.saving.proofs.put_due.Goals as goal
 
 pub put_record-requires : goal.put_record-requires
-put_record-requires c =
-    (omega arith, rw (weights_due c.args.n c.args.due c.args.words.now c.if-n-due.true) c.requires)
+unfolding little_bytes record_bytes row_bytes weight_bytes bytes_due
+put_record-requires g c = search (rules, lengths)
 
 pub returns-then-n-due : goal.returns-then-n-due
-returns-then-n-due c =
-    rw (← weights_due c.args.n c.args.due c.args.words.now c.if-n-due.true) c.put_record.ensures
+unfolding little_bytes row_bytes weight_bytes bytes_due
+returns-then-n-due g c = search rules
 
 pub put_record-requires-2 : goal.put_record-requires-2
-put_record-requires-2 c =
-    (omega arith, rw (row_due c.args.n c.args.due c.args.words.now c.if-n-due.false) c.requires)
+unfolding little_bytes record_bytes row_bytes weight_bytes bytes_due
+put_record-requires-2 g c = search (rules, lengths)
 
 pub returns : goal.returns
-returns c =
-    rw (← row_due c.args.n c.args.due c.args.words.now c.if-n-due.false) c.put_record-2.ensures
+unfolding little_bytes row_bytes weight_bytes bytes_due
+returns g c = search rules

@@ -1,9 +1,10 @@
 -- `saving::put_words` meets its contract. The loop's invariant: the first k words are written. Assumes nothing.
 use Prim.Native.Nat.{ℕ, ◌+◌, ◌<◌}
 use native.Mathlib.Omega.{arith}
-use mathlib.Core.List.{List}
-use lib.ListN.{length, take, get_or}
-use lib.Seq.{take-length, take_all}
+use mathlib.Core.List.{List, map}
+use mathlib.Core.Path.{◌≡◌}
+use lib.ListN.{length, take, get_or, length-map, get_or-map}
+use lib.Seq.{take-length}
 use Rattle.definitions.specs.Saving.{little_bytes, word_bytes}
 use Rattle.buffer.specs.Pasted.{Room, Written}
 use Rattle.buffer.proofs.Growing.{Turn, turn}
@@ -11,23 +12,26 @@ use Rattle.saving.proofs.FileBytes.{words-begun, words_grow}
 use Rattle.saving.proofs.put_words.Goals as goal
 
 -- A turn writes one word more.
-word-turn : (words : List ℕ) {at k next : ℕ} {out after : List ℕ} → Room (word_bytes words) at out → k < length words → Written (word_bytes (take k words)) at out after next
-    → Turn (little_bytes 8 (get_or words k 0)) (word_bytes (take (k + 1) words)) at out next after
-word-turn words room due so_far =
-    turn (λ m. word_bytes (take m words)) (λ m. little_bytes 8 (get_or words m 0)) (length words) (words_grow words) (rw (take-length words) room) due so_far
+word_turn : (words : List ℕ) (other : ℕ) {at k next : ℕ} {out after : List ℕ} → Room (word_bytes words) at out → k < length words → Written (word_bytes (take k words)) at out after next
+    → Turn (little_bytes 8 (get_or words k other)) (word_bytes (take (k + 1) words)) at out next after
+word_turn words other room due so_far =
+    turn (λ m. word_bytes (take m words)) (λ m. little_bytes 8 (get_or words m other)) (length words) (words_grow words other) (rw (take-length words) room) due so_far
+
+pub loop-number-init : goal.loop-number-init
+loop-number-init g c = words-begun _ _
 
 pub put_number-next-requires : goal.put_number-next-requires
-put_number-next-requires c =
-    (word-turn c.args.words.now c.requires c.loop-k-test.true c.loop-k.invariant.1).room
+put_number-next-requires g c =
+    let words = map g.W.Word.word_of c.args.numbers.now in
+    let k = c.loop-number.number-index in
+    let last = g.W.Word.word_of c.number-item.result in
+    let word : c.to_word.result ≡ get_or words k last = cc (get_or-map g.W.Word.word_of c.args.numbers.now k c.number-item.result) in
+    rw word (word_turn words last c.requires (omega (arith, length-map {B = ℕ} c.args.numbers.now g.W.Word.word_of)) c.loop-number.invariant).room
 
-pub loop-k-preserved : goal.loop-k-preserved
-loop-k-preserved c =
-    (omega arith, (word-turn c.args.words.now c.requires c.loop-k-test.true c.loop-k.invariant.1).written c.put_number-next.ensures)
-
-pub returns : goal.returns
-returns c =
-    let words = c.args.words.now in
-    rw (take_all c.loop-k.k words c.loop-k-test.false) at c.loop-k.invariant.1
-
-pub loop-k-init : goal.loop-k-init
-loop-k-init c = (omega arith, words-begun _ _)
+pub loop-number-preserved : goal.loop-number-preserved
+loop-number-preserved g c =
+    let words = map g.W.Word.word_of c.args.numbers.now in
+    let k = c.loop-number.number-index in
+    let last = g.W.Word.word_of c.number-item.result in
+    let word : c.to_word.result ≡ get_or words k last = cc (get_or-map g.W.Word.word_of c.args.numbers.now k c.number-item.result) in
+    (word_turn words last c.requires (omega (arith, length-map {B = ℕ} c.args.numbers.now g.W.Word.word_of)) c.loop-number.invariant).written (rw word at c.put_number-next.ensures)

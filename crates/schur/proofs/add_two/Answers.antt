@@ -5,7 +5,7 @@ use native.Mathlib.Numerals.{add-one}
 use native.Mathlib.Omega.{arith}
 use borrow.Author.Rules.{rules}
 use Rattle.tables.specs.RowMajor.{table}
-use Rattle.tables.proofs.Loops.{along_begins, along_due, along_else, along_turns, along_ends}
+use Rattle.tables.proofs.Loops.{along_begins, along_due, along_else, along_turns}
 use Rattle.schur.proofs.SchurRows.{plus_two_lem}
 use Rattle.schur.proofs.add_two.Goals as goal
 
@@ -22,8 +22,5 @@ loop-j-preserved c =
           (rw (add-one k) at c.get-z.ensures ∙ along_else h (suc k) j (λ e. omega arith))),
     )
 
-pub returns : goal.returns
-returns c = along_ends c.loop-j.invariant.1 (omega arith) (omega arith)
-
 pub loop-j-init : goal.loop-j-init
-loop-j-init c = (search rules, along_begins refl c.requires.4)
+loop-j-init c = (search rules, along_begins refl c.told-t)

@@ -10,12 +10,7 @@ use Rattle.schur.proofs.eliminate_pair.Goals as goal
 pub loop-i-init : goal.loop-i-init
 loop-i-init c =
     let two : c.args.k + 2 ≡ suc (suc c.args.k) = omega arith in
-    (omega arith, down_begins two c.requires.2)
-
-pub eliminate_twice-requires : goal.eliminate_twice-requires
-eliminate_twice-requires c =
-    let h = c.loop-i.invariant.1 in
-    (h.from, c.loop-i-test.true, c.requires.1, h.holds.long)
+    (omega arith, down_begins two c.told-t)
 
 pub loop-i-preserved : goal.loop-i-preserved
 loop-i-preserved c =

@@ -5,11 +5,8 @@ use borrow.Author.Rules.{rules}
 use Rattle.definitions.specs.Numbers.{◌⊘◌, div_in_range}
 use Rattle.rounding.proofs.ResultRange.{quotient_test}
 use Rattle.compact.specs.Listing.{marked}
-use Rattle.shares.proofs.Sharing.{above_none, above_turns, shares_begin, shares_turn, shares_end}
+use Rattle.shares.proofs.Sharing.{above_none, above_turns, shares_begin, shares_turn}
 use Rattle.shares.proofs.shares.Goals as goal
-
-pub put-requires : goal.put-requires
-put-requires c = (omega arith, c.loop-j.invariant.1.long)
 
 pub loop-j-preserved : goal.loop-j-preserved
 loop-j-preserved c = (
@@ -18,8 +15,5 @@ loop-j-preserved c = (
   above_turns (marked c.args.kept.now) c.loop-j.j c.loop-j.invariant.2,
 )
 
-pub returns : goal.returns
-returns c = shares_end (marked c.args.kept.now) c.loop-j.invariant.1 (omega arith) (omega arith)
-
 pub loop-j-init : goal.loop-j-init
-loop-j-init c = (search rules, shares_begin (marked c.args.kept.now) c.requires.4, above_none (marked c.args.kept.now))
+loop-j-init c = (search rules, shares_begin (marked c.args.kept.now) c.told-w, above_none (marked c.args.kept.now))

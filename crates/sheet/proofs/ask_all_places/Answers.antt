@@ -1,22 +1,21 @@
 -- `sheet::ask_all_places` meets its contract. Assumes nothing.
+use Rattle.std.proofs.Common.{rules}
 use Rattle.exact.proofs.Bools.{holds}
-use Rattle.answers.proofs.Outcome.{all_pass, ends, goes_on, in_other_words}
-use Rattle.places.proofs.PlaceQuestions.{in_order_lem}
+use Rattle.definitions.specs.Questions.{place_questions}
+use Rattle.answers.proofs.Outcome.{all_pass, goes_on}
 use Rattle.sheet.proofs.ask_all_places.Goals as goal
 
-pub returns-then-signs-ne0 : goal.returns-then-signs-ne0
-returns-then-signs-ne0 c =
-    in_other_words (in_order_lem _ _ _)
-    (goes_on c.ask_places-finite.ensures c.if-finite-ne0.false (ends c.ask_places-signs.ensures _ c.if-signs-ne0.true))
-
 pub returns : goal.returns
-returns c =
-    in_other_words (in_order_lem _ _ _)
-    (goes_on c.ask_places-finite.ensures c.if-finite-ne0.false
-    (goes_on c.ask_places-signs.ensures c.if-signs-ne0.false c.ask_places.ensures))
+unfolding place_questions
+returns c = goes_on c.in_ok-ask_finite.ensures (goes_on c.in_ok-ask_signs.ensures c.ask_sizes.ensures)
 
 pub returns-then-sheet_passes : goal.returns-then-sheet_passes
 returns-then-sheet_passes c = all_pass (c.sheet_passes.ensures (holds c.if-sheet_passes.true))
 
-pub returns-then-finite-ne0 : goal.returns-then-finite-ne0
-returns-then-finite-ne0 c = in_other_words (in_order_lem _ _ _) (ends c.ask_places-finite.ensures _ c.if-finite-ne0.true)
+pub returns-in_err-ask_finite : goal.returns-in_err-ask_finite
+unfolding place_questions
+returns-in_err-ask_finite c = search rules
+
+pub returns-in_err-ask_signs : goal.returns-in_err-ask_signs
+unfolding place_questions
+returns-in_err-ask_signs c = search rules

@@ -11,7 +11,7 @@ pub least-lo-requires : goal.least-lo-requires
 unfolding of_bits
 least-lo-requires c =
     let p = c.requires in
-    (omega arith, omega arith, p.1, p.3, bound-one)
+    (omega arith, omega arith, p.1, bound-one)
 
 pub returns : goal.returns
 returns c =

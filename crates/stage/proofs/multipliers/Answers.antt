@@ -12,7 +12,7 @@ pub row_told-told-requires : goal.row_told-told-requires
 row_told-told-requires c =
     let h = c.loop-i.invariant.1 in
     let p = c.requires in
-    (h.from, c.loop-i-test.true, p.1, h.holds.long, rw c.get.ensures, rw (down_else h c.args.k (λ c m. omega arith)) p.3)
+    (h.from, c.loop-i-test.true, p.1, rw c.get.ensures, rw (down_else h c.args.k (λ c m. omega arith)) p.2)
 
 pub loop-i-preserved : goal.loop-i-preserved
 loop-i-preserved c =
@@ -30,4 +30,4 @@ returns c =
     (λ g a. told_ends (v.2 g a) (omega arith) (omega arith), down_ends v.1 (omega arith) (omega arith))
 
 pub loop-i-init : goal.loop-i-init
-loop-i-init c = (search rules, down_begins (add-one c.args.k) c.requires.2, λ g a. told_begins (add-one c.args.k))
+loop-i-init c = (search rules, down_begins (add-one c.args.k) c.told-t, λ g a. told_begins (add-one c.args.k))

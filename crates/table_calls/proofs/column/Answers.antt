@@ -7,4 +7,4 @@ use Rattle.table_calls.proofs.column.Goals as goal
 -- e is handed over by its bits, which mean e.
 pub returns : goal.returns
 returns c =
-    column_call (rw (to_z-of_z w64 c.args.e c.ranges.e) at c.one_column-told.ensures) c.hand_allowance.ensures
+    column_call (rw (to_z-of_z w64 c.args.e c.ranges.e) at c.one_column-told.ensures) c.hand.ensures

@@ -7,4 +7,4 @@ use Rattle.table_calls.proofs.entry.Goals as goal
 -- e is handed over by its bits, which mean e.
 pub returns : goal.returns
 returns c =
-    entry_call (rw (to_z-of_z w64 c.args.e c.ranges.e) at c.one_entry-entry.ensures) c.hand_seconds.ensures
+    entry_call (rw (to_z-of_z w64 c.args.e c.ranges.e) at c.one_entry-entry.ensures) c.hand.ensures

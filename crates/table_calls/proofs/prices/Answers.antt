@@ -7,4 +7,4 @@ use Rattle.table_calls.proofs.prices.Goals as goal
 -- e is handed over by its bits, which mean e.
 pub returns : goal.returns
 returns c =
-    prices_call (rw (to_z-of_z w64 c.args.e c.ranges.e) at c.request_prices-told.ensures) c.hand_allowance.ensures
+    prices_call (rw (to_z-of_z w64 c.args.e c.ranges.e) at c.request_prices-told.ensures) c.hand.ensures

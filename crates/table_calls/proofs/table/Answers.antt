@@ -7,4 +7,4 @@ use Rattle.table_calls.proofs.table.Goals as goal
 -- e is handed over by its bits, which mean e.
 pub returns : goal.returns
 returns c =
-    table_call (rw (to_z-of_z w64 c.args.e c.ranges.e) at c.whole_table-table.ensures) c.hand_allowance.ensures
+    table_call (rw (to_z-of_z w64 c.args.e c.ranges.e) at c.whole_table-table.ensures) c.hand.ensures

@@ -5,11 +5,11 @@ use Rattle.text.specs.AnswerText.{answer_text}
 use Rattle.text.proofs.answer_text.Goals as goal
 
 -- e is handed over by its bits, which mean e.
-pub returns-in-Allowed : goal.returns-in-Allowed
+pub returns-in-Ok : goal.returns-in-Ok
 unfolding answer_text
-returns-in-Allowed c =
-    rw c.in-Allowed.is (rw (to_z-of_z w64 c.args.e c.ranges.e) at c.seconds_text.ensures)
+returns-in-Ok c =
+    rw c.in-Ok.is (rw (to_z-of_z w64 c.args.e c.ranges.e) at c.seconds_text.ensures)
 
-pub returns-in-Refused : goal.returns-in-Refused
+pub returns-in-Err : goal.returns-in-Err
 unfolding answer_text
-returns-in-Refused c = rw c.in-Refused.is c.refused_text.ensures
+returns-in-Err c = rw c.in-Err.is (rw c.into.ensures at c.refused_text.ensures)

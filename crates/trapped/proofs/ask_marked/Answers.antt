@@ -2,7 +2,7 @@
 use mathlib.Core.Path.{◌≡◌, ◌∙◌}
 use mathlib.Core.Bool.{Bool, true, false, not, ◌||◌, or-true}
 use mathlib.Core.List.{List}
-use Prim.Native.Nat.{ℕ, zero-le}
+use Prim.Native.Nat.{ℕ}
 use native.Mathlib.Omega.{arith}
 use borrow.Author.Tests.{not-true, not-false}
 use lib.Ieee.{Float}
@@ -33,28 +33,26 @@ module _ (n : ℕ) (sheet : List Float) (marks : Marks) (i : ℕ) where
 pub returns-then-not-is_idle : goal.returns-then-not-is_idle
 returns-then-not-is_idle c =
     let marks = c.args.marks in
-    no (λ z. omega arith) (c.loop-i.invariant.1 ∙ bad_stage _ _ _ _ c.loop-i-test.true (neither _ _ marks _ c.is_idle.ensures (ap not c.if-not-is_idle.true) (ap not c.if-not-marks-i.true)))
+    no (c.loop-i.invariant ∙ bad_stage _ _ _ _ c.loop-i-test.true (neither _ _ marks _ c.is_idle.ensures (ap not c.if-not-is_idle.true) (ap not c.if-not-marks-i.true)))
 
 pub loop-i-preserved : goal.loop-i-preserved
 loop-i-preserved c =
-    let marks = c.args.marks in (
-      omega arith,
-      elim c.else-not-marks-i.branch [
-        | else-not-marks-i-via-then-not-marks-i+else-not-is_idle w ↦
-            c.loop-i.invariant.1 ∙ good-stage _ _ _ _ c.loop-i-test.true (idle-passes _ _ marks _ w.is_idle.ensures (ap not w.if-not-is_idle.false))
-        | else-not-marks-i-via-else-not-marks-i w ↦
-            c.loop-i.invariant.1 ∙ good-stage _ _ _ _ c.loop-i-test.true (marked-passes _ _ marks _ (ap not w.if-not-marks-i.false))
-      ],
-    )
+    let marks = c.args.marks in
+    elim c.else-not-marks-i.branch [
+      | else-not-marks-i-via-then-not-marks-i+else-not-is_idle w ↦
+          c.loop-i.invariant ∙ good-stage _ _ _ _ c.loop-i-test.true (idle-passes _ _ marks _ w.is_idle.ensures (ap not w.if-not-is_idle.false))
+      | else-not-marks-i-via-else-not-marks-i w ↦
+          c.loop-i.invariant ∙ good-stage _ _ _ _ c.loop-i-test.true (marked-passes _ _ marks _ (ap not w.if-not-marks-i.false))
+    ]
 
 pub returns : goal.returns
-returns c = all_pass (c.loop-i.invariant.1 ∙ no_stage _ _ _ _ c.loop-i-test.false)
+returns c = all_pass (c.loop-i.invariant ∙ no_stage _ _ _ _ c.loop-i-test.false)
 
 pub loop-i-init : goal.loop-i-init
-loop-i-init c = (zero-le, all-stages _ _ _)
+loop-i-init c = all-stages _ _ _
 
 pub bounds-marks-i : goal.bounds-marks-i
-bounds-marks-i c = omega (arith, c.requires.few)
+bounds-marks-i c = omega (arith, c.args.sheet.square.few)
 
 pub overflow_add-result : goal.overflow_add-result
-overflow_add-result c = omega (arith, c.requires.few)
+overflow_add-result c = omega (arith, c.args.sheet.square.few)

@@ -2,7 +2,7 @@
 use mathlib.Core.Path.{◌≡◌}
 use mathlib.Core.Bool.{Bool, ◌||◌}
 use mathlib.Core.List.{List}
-use Prim.Native.Nat.{ℕ, ◌≤◌, ◌-◌}
+use Prim.Native.Nat.{ℕ}
 use lib.Ieee.{Float}
 use Rattle.definitions.specs.Sheet.{idle}
 use Rattle.definitions.specs.Questions.{ask_stages}
@@ -15,7 +15,4 @@ abbrev pub passes : ℕ → List Float → Marks → ℕ → Bool
 passes n sheet marks i = idle n sheet i || is_marked marks i
 
 abbrev pub invariant-loop-i : goal.invariant-loop-i
-invariant-loop-i l = (l.i ≤ l.n) × (ask_stages (passes l.n l.sheet l.marks) 9 0 l.n ≡ from_stage (passes l.n l.sheet l.marks) 9 l.n l.i)
-
-abbrev pub decreases-loop-i : goal.decreases-loop-i
-decreases-loop-i l = l.n - l.i
+invariant-loop-i l = ask_stages (passes l.sheet.n l.sheet.numbers.now l.marks) 9 0 l.sheet.n ≡ from_stage (passes l.sheet.n l.sheet.numbers.now l.marks) 9 l.sheet.n l.i

@@ -33,8 +33,8 @@ unfolding question9 not_trapped
 none_trapped n sheet marks one h e =
     rw one (stages_pass (not_trapped n sheet) 9 n (λ i l. or_r (idle n sheet i) (gets_out n sheet i) (holds (count_full (gets_out n sheet) n (sym h.counted ∙ e) i l))))
 
-pub returns-then-marks-n : goal.returns-then-marks-n
-returns-then-marks-n c = all_pass (none_trapped _ _ _ c.if-reading-ne1.false c.reach-marks.ensures c.if-marks-n.true)
+pub returns-then-marks-sheet : goal.returns-then-marks-sheet
+returns-then-marks-sheet c = all_pass (none_trapped _ _ _ c.if-reading-ne1.false c.reach-marks.ensures c.if-marks-sheet.true)
 
 pub returns : goal.returns
 returns c = in_other_words (of_marked _ _ _ c.if-reading-ne1.false c.reach-marks.ensures) c.ask_marked.ensures

@@ -13,9 +13,9 @@ use Rattle.way_back.proofs.back.Given as goal
 
 abbrev pub invariant-loop-p : goal.invariant-loop-p
 invariant-loop-p l =
-    (l.p ≤ l.r)
-    × Down 0 (λ o. between 0 l.r (multiple (vector l.k (stage_at l.stages o)) (table l.initial.y o)) (table l.initial.y o)) (table l.initial.y) l.y l.p
-    × Gathered (λ o. all (times_in_range (vector l.k (stage_at l.stages o)) (table l.initial.y o)) 0 l.r) 0 l.p l.ok
+    (l.p ≤ l.stages.count)
+    × Down 0 (λ o. between 0 l.stages.count (multiple (vector l.k (stage_at l.stages.places o)) (table l.initial.y o)) (table l.initial.y o)) (table l.initial.y) l.y l.p
+    × Gathered (λ o. all (times_in_range (vector l.k (stage_at l.stages.places o)) (table l.initial.y o)) 0 l.stages.count) 0 l.p l.ok
 
 abbrev pub decreases-loop-p : goal.decreases-loop-p
-decreases-loop-p l = l.r - l.p
+decreases-loop-p l = l.stages.count - l.p

@@ -4,9 +4,9 @@ use native.Mathlib.Omega.{arith}
 use borrow.Author.Rules.{rules}
 use Rattle.definitions.specs.Numbers.{◌⊗◌}
 use Rattle.rounding.proofs.ResultRange.{product_test}
-use Rattle.steps.proofs.Gathering.{gathered_begins, gathered_turns, gathered_all}
+use Rattle.steps.proofs.Gathering.{gathered_begins, gathered_turns}
 use Rattle.tables.specs.RowMajor.{table}
-use Rattle.tables.proofs.Loops.{along_begins, along_due, along_turns, along_ends}
+use Rattle.tables.proofs.Loops.{along_begins, along_due, along_turns}
 use Rattle.tables.proofs.Rows.{times_test}
 use Rattle.way_back.specs.WayBack.{multiple}
 use Rattle.way_back.proofs.multiply.Goals as goal
@@ -18,10 +18,5 @@ loop-q-preserved c =
     let x = c.get-x.ensures ∙ along_due h in
     (omega arith, along_turns h c.put.ensures (ap (λ z. c.args.m ⊗ z) x), gathered_turns c.loop-q.invariant.2 (times_test c.loop-q.q (table c.args.y.now c.args.p) x c.args.m (c.result_in_range-step.ensures ∙ product_test c.args.m c.get-x.result)))
 
-pub returns : goal.returns
-returns c =
-    let l = c.loop-q in
-    record { range = gathered_all l.invariant.2 (omega arith) (omega arith); holds = along_ends l.invariant.1 (omega arith) (omega arith) }
-
 pub loop-q-init : goal.loop-q-init
-loop-q-init c = (search rules, along_begins refl c.requires.2, gathered_begins refl)
+loop-q-init c = (search rules, along_begins refl c.told-y, gathered_begins refl)

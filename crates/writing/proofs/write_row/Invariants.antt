@@ -1,12 +1,7 @@
 -- `writing::write_row` meets its contract: at column j the places before it are written. Assumes nothing.
-use Prim.Native.Nat.{◌-◌}
-use lib.ListN.{length}
 use Rattle.tables.specs.RowMajor.{table}
 use Rattle.writing.proofs.FilledRows.{Filled}
 use Rattle.writing.proofs.write_row.Given as goal
 
 abbrev pub invariant-loop-j : goal.invariant-loop-j
 invariant-loop-j l = Filled (table l.x l.i) l.initial.part l.part l.j
-
-abbrev pub decreases-loop-j : goal.decreases-loop-j
-decreases-loop-j l = length l.initial.part - l.j

@@ -4,4 +4,4 @@ use Rattle.tables.proofs.Vectors.{read_vector}
 use Rattle.tables.proofs.vector.get.Goals as goal
 
 pub returns : goal.returns
-returns c = read_vector c.args.v.now c.requires.1 c.requires.0 nan
+returns c = read_vector c.args.v.now c.told-v c.requires nan

@@ -1,0 +1,57 @@
+// A lent sheet with its shape, as questions 2 and 3 leave it.
+
+ghost use Rattle.std.specs.Prelude.{◌*◌, ◌<◌, ◌≡◌, take, drop};
+ghost use Rattle.definitions.specs.Sheet.{place};
+ghost use Rattle.shape.specs.Square.{Square, WholeSheet};
+
+// At most 32 stages, and at least a number for each pair of them.
+#[derive(Clone, Copy)]
+pub struct Sheet<'a> {
+    pub n: usize,
+    pub numbers: &'a [f64],
+    pub ghost square: { Square n numbers.now },
+}
+
+impl<'a> Sheet<'a> {
+    // The number at place (i, j).
+    pub fn number_at(self, i: usize, j: usize) -> f64
+        requires { (i < self.n) × (j < self.n) }
+        ensures { result ≡ place self.entry.n self.entry.numbers.now i j }
+    {
+        self.numbers[i * self.n + j]
+    }
+
+    // The n × n numbers themselves: sizes, and rates or margins.
+    pub fn rates(self) -> &'a [f64]
+        ensures { result.now ≡ take (self.entry.n * self.entry.n) self.entry.numbers.now }
+    {
+        let rates = self.n * self.n;
+        &self.numbers[..rates]
+    }
+
+    // The weights: the numbers behind them, none in readings 1 and 2.
+    pub fn weights(self) -> &'a [f64]
+        ensures { result.now ≡ drop (self.entry.n * self.entry.n) self.entry.numbers.now }
+    {
+        let rates = self.n * self.n;
+        &self.numbers[rates..]
+    }
+}
+
+// The whole sheet of a reading: 1 to 32 stages, and as many numbers as the reading has.
+#[derive(Clone, Copy)]
+pub struct Whole<'a> {
+    pub reading: usize,
+    pub sheet: Sheet<'a>,
+    pub ghost whole: { WholeSheet reading sheet.n sheet.numbers.now },
+}
+
+impl<'a> Whole<'a> {
+    pub fn new(reading: usize, n: usize, numbers: &'a [f64]) -> Whole<'a>
+        requires { WholeSheet reading n numbers.now }
+        ensures { (result.reading ≡ reading) × (result.sheet.n ≡ n) × (result.sheet.numbers.now ≡ numbers.now) }
+    {
+        let sheet = Sheet { n, numbers };
+        Whole { reading, sheet }
+    }
+}
