@@ -21,6 +21,7 @@ struct Four {
     d: f64,
 }
 
+// Not the library's `min` and `max`, which pass over a NaN where this keeps y.
 fn smaller(x: f64, y: f64) -> f64
     ensures { result ≡ cond (lt x y) x y }
 {

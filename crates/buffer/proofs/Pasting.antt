@@ -1,5 +1,5 @@
--- Laws of texts pasted into a buffer: one after another, one byte, and the promise of writers in a row.
-use mathlib.Core.Path.{◌≡◌, sym, ap, ap₂, ◌∙◌}
+-- Laws of texts pasted into a buffer: one after another, one byte, and the promise of a writer, text after text.
+use mathlib.Core.Path.{◌≡◌, refl, sym, ap, ap₂, ◌∙◌}
 use Prim.Native.Nat.{ℕ, ◌+◌, ◌≤◌, ◌<◌}
 use native.Mathlib.Nat.{add_assoc, add-zero, zero-add}
 use native.Mathlib.Numerals.{add-one}
@@ -7,6 +7,7 @@ use native.Mathlib.Omega.{arith}
 use mathlib.Core.List.{List, [], ◌∷◌, ◌++◌, append_assoc, append-nil}
 use lib.ListN.{length, take, drop, set, length-append, length-take, length-drop, take-append-drop}
 use lib.Seq.{take_at, drop_at, drop-drop, set_split, take-append-le, take-take, length-take-le}
+use Rattle.buffer.specs.declared.Writer.{Writer}
 use Rattle.buffer.specs.Pasted.{pasted, Room, Written, AtStart}
 
 module _ (text : List ℕ) (at : ℕ) (bytes : List ℕ) (room : at + length text ≤ length bytes) where
@@ -84,81 +85,81 @@ pasted-last front text byte at place bytes whole here inside =
     let inside' : at + length front < length bytes = rw here at inside in
     rw (here, pasted_byte byte (at + length front) bytes inside', whole) (pasted_before front (byte ∷ []) at bytes (omega arith))
 
--- Writers in a row: the first has room, then the second has, and together they write both texts.
-module _ (a b : List ℕ) {at : ℕ} {bytes : List ℕ} (room : Room (a ++ b) at bytes) where
-  room_sum : at + length a + length b ≤ length bytes
+-- Texts in a row: each has room once those before it are written, and together they are one text.
+module _ (a b : List ℕ) {w : Writer} (room : Room (a ++ b) w) where
+  room_sum : w.at + length a + length b ≤ length w.out.now
   room_sum = omega (arith, room.within, length-append a b)
 
-  pub room_first : Room a at bytes
+  pub room_first : Room a w
   room_first = record { within = omega (arith, room_sum) }
 
-  module _ {next : ℕ} {after : List ℕ} (first : Written a at bytes after next) where
-    pub room_next : Room b next after
-    room_next = record { within = rw (first.bytes, first.place, length-pasted a at bytes room_first.within) room_sum }
+  module _ {w₁ : Writer} (first : Written a w w₁) where
+    pub room_next : Room b w₁
+    room_next = record { within = rw (first.same_length, first.place) room_sum }
 
-    pub written_next : {end : ℕ} {last : List ℕ} → Written b next after last end → Written (a ++ b) at bytes last end
-    written_next w = record {
-      bytes = w.bytes ∙ ap₂ (λ (k : ℕ) (l : List ℕ). pasted b k l) first.place first.bytes ∙ pasted-after a b at bytes room_first.within;
-      place = omega (arith, w.place, first.place, length-append a b);
+    pub written_next : {w₂ : Writer} → Written b w₁ w₂ → Written (a ++ b) w w₂
+    written_next next = record {
+      same_buffer = next.same_buffer ∙ first.same_buffer;
+      same_length = next.same_length ∙ first.same_length;
+      bytes = next.bytes ∙ ap₂ (λ (k : ℕ) (l : List ℕ). pasted b k l) first.place first.bytes ∙ pasted-after a b w.at w.out.now room_first.within;
+      place = omega (arith, next.place, first.place, length-append a b);
     }
 
--- Three writers in a row.
-module _ (a b c : List ℕ) {at : ℕ} {bytes : List ℕ} (room : Room (a ++ b ++ c) at bytes) where
-  room_ab : Room (a ++ b) at bytes
+-- Three texts in a row.
+module _ (a b c : List ℕ) {w : Writer} (room : Room (a ++ b ++ c) w) where
+  room_ab : Room (a ++ b) w
   room_ab = room_first (a ++ b) c room
 
-  pub room3_1 : Room a at bytes
+  pub room3_1 : Room a w
   room3_1 = room_first a b room_ab
 
-  module _ {n₁ : ℕ} {l₁ : List ℕ} (w₁ : Written a at bytes l₁ n₁) where
-    pub room3_2 : Room b n₁ l₁
-    room3_2 = room_next a b room_ab w₁
+  module _ {w₁ : Writer} (first : Written a w w₁) where
+    pub room3_2 : Room b w₁
+    room3_2 = room_next a b room_ab first
 
-    module _ {n₂ : ℕ} {l₂ : List ℕ} (w₂ : Written b n₁ l₁ l₂ n₂) where
-      written_ab : Written (a ++ b) at bytes l₂ n₂
-      written_ab = written_next a b room_ab w₁ w₂
+    module _ {w₂ : Writer} (second : Written b w₁ w₂) where
+      written_ab : Written (a ++ b) w w₂
+      written_ab = written_next a b room_ab first second
 
-      pub room3_3 : Room c n₂ l₂
+      pub room3_3 : Room c w₂
       room3_3 = room_next (a ++ b) c room written_ab
 
-      pub written_3 : {n₃ : ℕ} {l₃ : List ℕ} → Written c n₂ l₂ l₃ n₃ → Written (a ++ b ++ c) at bytes l₃ n₃
-      written_3 w₃ = written_next (a ++ b) c room written_ab w₃
+      pub written_3 : {w₃ : Writer} → Written c w₂ w₃ → Written (a ++ b ++ c) w w₃
+      written_3 third = written_next (a ++ b) c room written_ab third
 
--- Four writers in a row.
-module _ (a b c d : List ℕ) {at : ℕ} {bytes : List ℕ} (room : Room (a ++ b ++ c ++ d) at bytes) where
-  room_abc : Room (a ++ b ++ c) at bytes
+-- Four texts in a row.
+module _ (a b c d : List ℕ) {w : Writer} (room : Room (a ++ b ++ c ++ d) w) where
+  room_abc : Room (a ++ b ++ c) w
   room_abc = room_first (a ++ b ++ c) d room
 
-  pub room_1 : Room a at bytes
+  pub room_1 : Room a w
   room_1 = room3_1 a b c room_abc
 
-  module _ {n₁ : ℕ} {l₁ : List ℕ} (w₁ : Written a at bytes l₁ n₁) where
-    pub room_2 : Room b n₁ l₁
-    room_2 = room3_2 a b c room_abc w₁
+  module _ {w₁ : Writer} (first : Written a w w₁) where
+    pub room_2 : Room b w₁
+    room_2 = room3_2 a b c room_abc first
 
-    module _ {n₂ : ℕ} {l₂ : List ℕ} (w₂ : Written b n₁ l₁ l₂ n₂) where
-      pub room_3 : Room c n₂ l₂
-      room_3 = room3_3 a b c room_abc w₁ w₂
+    module _ {w₂ : Writer} (second : Written b w₁ w₂) where
+      pub room_3 : Room c w₂
+      room_3 = room3_3 a b c room_abc first second
 
-      module _ {n₃ : ℕ} {l₃ : List ℕ} (w₃ : Written c n₂ l₂ l₃ n₃) where
-        written_abc : Written (a ++ b ++ c) at bytes l₃ n₃
-        written_abc = written_3 a b c room_abc w₁ w₂ w₃
+      module _ {w₃ : Writer} (third : Written c w₂ w₃) where
+        written_abc : Written (a ++ b ++ c) w w₃
+        written_abc = written_3 a b c room_abc first second third
 
-        pub room_4 : Room d n₃ l₃
+        pub room_4 : Room d w₃
         room_4 = room_next (a ++ b ++ c) d room written_abc
 
-        pub written_4 : {n₄ : ℕ} {l₄ : List ℕ} → Written d n₃ l₃ l₄ n₄ → Written (a ++ b ++ c ++ d) at bytes l₄ n₄
-        written_4 w₄ = written_next (a ++ b ++ c) d room written_abc w₄
-
-pub length_written : {text : List ℕ} {at next : ℕ} {bytes after : List ℕ} → Room text at bytes → Written text at bytes after next → length after ≡ length bytes
-length_written {text} {at} {bytes = bytes} room w = ap length w.bytes ∙ length-pasted text at bytes room.within
+        pub written_4 : {w₄ : Writer} → Written d w₃ w₄ → Written (a ++ b ++ c ++ d) w w₄
+        written_4 fourth = written_next (a ++ b ++ c) d room written_abc fourth
 
 -- Nothing written, and a text written at the start of the buffer.
-pub written_at_start : {text bytes after : List ℕ} {count : ℕ} → Written text 0 bytes after count → AtStart text bytes after count
-written_at_start {text} {bytes} w = record { bytes = w.bytes ∙ pasted-at-start text bytes; counted = omega (arith, w.place) }
+pub written_at_start : {text last : List ℕ} {before after : Writer} → Written text before after → before.at ≡ 0 → last ≡ after.out.now → AtStart text before.out.now last after.at
+written_at_start {text} {before = before} w start lent =
+    record { bytes = lent ∙ w.bytes ∙ rw (start, pasted-at-start text before.out.now); counted = omega (arith, w.place, start) }
 
-pub written_nothing : (at : ℕ) (bytes : List ℕ) → Written [] at bytes bytes at
-written_nothing at bytes = record { bytes = sym (pasted_nothing at bytes); place = omega arith }
+pub written_nothing : (w : Writer) → Written [] w w
+written_nothing w = record { same_buffer = refl; same_length = refl; bytes = sym (pasted_nothing w.at w.out.now); place = omega arith }
 
 -- A caller may lend the text alone: it ends within the buffer.
 pub count_within : {text before after : List ℕ} {count : ℕ} → AtStart text before after count → length after ≡ length before → count ≤ length before

@@ -1,24 +1,32 @@
-// Bytes written into a lent buffer. A writer takes the place where its bytes begin and returns the place after
-// them; every other byte stays as it was.
+// Bytes written one after another into a lent buffer; every other byte stays as it was.
 #![tactic(auto)]
 
 ghost use Rattle.std.specs.Prelude.{[], ◌∷◌};
 ghost use Rattle.buffer.specs.Pasted.{Room, Written};
 
-// Every writer needs room for all that it writes.
-pub fn put_byte(byte: u8, at: usize, out: &mut [u8]) -> usize
-    requires { Room (byte ∷ []) at out.old }
-    ensures { Written (byte ∷ []) at out.old out.new result }
-{
-    out[at] = byte;
-    at + 1
+// The place is that of the next byte.
+#[derive(Drop)]
+pub struct Writer<'a> {
+    pub out: &'a mut [u8],
+    pub at: usize,
 }
 
-pub fn put_bytes(bytes: &[u8], at: usize, out: &mut [u8]) -> usize
-    requires { Room bytes.now at out.old }
-    ensures { Written bytes.now at out.old out.new result }
-{
-    let next = at + bytes.len();
-    out[at..next].copy_from_slice(bytes);
-    next
+// Every writing needs room for all that it writes.
+impl Writer<'_> {
+    pub fn put_byte(&mut self, byte: u8)
+        requires { Room (byte ∷ []) self.old }
+        ensures { Written (byte ∷ []) self.old self.new }
+    {
+        self.out[self.at] = byte;
+        self.at += 1;
+    }
+
+    pub fn put_bytes(&mut self, bytes: &[u8])
+        requires { Room bytes.now self.old }
+        ensures { Written bytes.now self.old self.new }
+    {
+        let next = self.at + bytes.len();
+        self.out[self.at..next].copy_from_slice(bytes);
+        self.at = next;
+    }
 }

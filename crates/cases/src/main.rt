@@ -82,11 +82,7 @@ fn count(case: &[u8], k: usize) -> usize
 fn signed(case: &[u8], k: usize) -> i64
     requires { k ≤ 2048 }
 {
-    let word = word(case, k);
-    if word < 0x8000_0000_0000_0000 {
-        return word as i64;
-    }
-    -1 - ((u64::MAX - word) as i64)
+    word(case, k).cast_signed()
 }
 
 // The numbers behind the first `from` words of a case; returns how many there are.

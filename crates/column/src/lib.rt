@@ -93,7 +93,7 @@ fn quotients(r: usize, t: &[f64; 1024], b: &mut [f64; 32]) -> bool
 
 // Column j of the quotients, in b, of the system in t; true if its steps are in range. b holds zeros before;
 // afterwards it is left open where a step is not in range, and so is t. At j = r the steps are taken with a
-// column of zeros (document 02, U3).
+// column of zeros (document 02, U3); a number and no Option, since the definitions of the column count so too.
 pub fn solve(r: usize, j: usize, t: &mut [f64; 1024], b: &mut [f64; 32]) -> bool
     requires { (j ≤ r) × (r ≤ 32) × ZeroVector b.old }
     ensures { ColumnSolved r j (table t.old) result b.new }

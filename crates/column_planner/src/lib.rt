@@ -11,7 +11,8 @@ ghost use Rattle.tables.specs.Vectors.{ZeroVector};
 ghost use Rattle.column_planner.specs.Promises.{ColumnStepped, ColumnDone};
 
 use answers::{Question, Refusal};
-use shape::sheets::Sheet;
+use compact::Stages;
+use shape::sheets::{Lent, Sheet, Whole};
 
 // Column j of a sheet without idle stages: its sizes and leaving rates go through the steps as they are.
 fn leaving_rates(j: usize, sheet: Sheet<'_>, b: &mut [f64; 32]) -> bool
@@ -30,9 +31,10 @@ fn live_stages(j: usize, sheet: Sheet<'_>, x: &mut [f64; 32]) -> bool
     requires { (j < sheet.n) × ZeroVector x.old }
     ensures { ColumnStepped sheet.entry.n sheet.entry.numbers.now j result x.new }
 {
+    let mut stages = Stages::none();
     let mut s = [0.0; 1024];
     let mut b = [0.0; 32];
-    let stages = live::pack(sheet, &mut s);
+    live::pack(sheet, &mut stages, &mut s);
     let place = stages.find(j);
     if !column::solve(stages.count, place.unwrap_or(stages.count), &mut s, &mut b) {
         return false;
@@ -57,37 +59,23 @@ fn steps(j: usize, sheet: Sheet<'_>, b: &mut [f64; 32]) -> bool
 }
 
 // The column of a sheet that passed questions 1 to 9. Nothing is written before question 10 passes too.
-fn column_of_sheet(
-    reading: usize,
-    n: usize,
-    e: i64,
-    sheet: &[f64],
-    stage: usize,
-    answer: &mut [f64],
-) -> Result<usize, Refusal>
-    requires { column_input reading n e sheet.now (length answer.old) stage ≡ pass }
-    ensures { ColumnDone reading n e sheet.now stage answer.old answer.new result }
+fn column_of_sheet(sheet: Lent<'_>, stage: usize, answer: &mut [f64]) -> Result<usize, Refusal>
+    requires { column_input sheet.reading sheet.n sheet.e sheet.numbers.now (length answer.old) stage ≡ pass }
+    ensures { ColumnDone sheet.entry.reading sheet.entry.n sheet.entry.e sheet.entry.numbers.now stage answer.old answer.new result }
 {
-    let sheet = Sheet { n, numbers: sheet };
+    let whole = Whole::new(1, sheet.n, sheet.numbers);
     let mut b = [0.0; 32];
-    if !steps(stage - 1, sheet, &mut b) {
+    if !steps(stage - 1, whole.sheet, &mut b) {
         return Err(Question::InRange.into());
     }
-    writing::write_column(n, &b, answer);
-    Ok(allowance::allowance_of(1, n))
+    writing::write_column(sheet.n, &b, answer);
+    Ok(allowance::allowance_of(1, sheet.n))
 }
 
 // The column of a stage, counted from 1, in the first n places of the answer area.
-pub fn one_column(
-    reading: usize,
-    n: usize,
-    e: i64,
-    sheet: &[f64],
-    stage: usize,
-    answer: &mut [f64],
-) -> Result<usize, Refusal>
-    ensures { ColumnDone reading n e sheet.now stage answer.old answer.new result }
+pub fn one_column(sheet: Lent<'_>, stage: usize, answer: &mut [f64]) -> Result<usize, Refusal>
+    ensures { ColumnDone sheet.entry.reading sheet.entry.n sheet.entry.e sheet.entry.numbers.now stage answer.old answer.new result }
 {
-    sheet::column_input(reading, n, e, sheet, answer.len(), stage)?;
-    column_of_sheet(reading, n, e, sheet, stage, answer)
+    sheet::column_input(sheet, answer.len(), stage)?;
+    column_of_sheet(sheet, stage, answer)
 }

@@ -20,30 +20,37 @@ pub struct Stages {
     pub ghost differ: { StagesDiffer count places },
 }
 
-// Stage i follows the r listed stages before it, if the mask marks it. The result is the new count.
-fn list_stage(i: usize, r: usize, mask: &[bool; 32], places: &mut [usize; 32]) -> usize
-    requires { (i < 32) × Listing (marked mask.now) i r places.old }
-    ensures { Listing (marked mask.now) (suc i) result places.new }
-{
-    if mask[i] {
-        places[r] = i;
-        return r + 1;
-    }
-    r
-}
-
 impl Stages {
-    // The stages below n that the mask marks.
-    pub fn list(n: usize, mask: &[bool; 32]) -> Self
-        requires { n ≤ 32 }
-        ensures { Listing (marked mask.now) n result.count result.places }
+    // A list of no stage. A list is filled where it lies, for one that a call returns is copied on its way.
+    pub fn none() -> Self
+        ensures { result.count ≡ 0 }
     {
-        let mut places = [0; 32];
-        let mut count = 0;
-        for i in 0..n {
-            count = list_stage(i, count, mask, &mut places);
+        Stages {
+            places: [0; 32],
+            count: 0,
         }
-        Stages { places, count }
+    }
+
+    // Stage i follows the listed stages, which are those before it that the mask marks, if it is marked too.
+    fn list_stage(&mut self, i: usize, mask: &[bool; 32])
+        requires { (i < 32) × Listing (marked mask.now) i self.old.count self.old.places }
+        ensures { Listing (marked mask.now) (suc i) self.new.count self.new.places }
+    {
+        if mask[i] {
+            self.places[self.count] = i;
+            self.count = self.count + 1;
+        }
+    }
+
+    // The list becomes that of the stages below n that the mask marks.
+    pub fn list(&mut self, n: usize, mask: &[bool; 32])
+        requires { n ≤ 32 }
+        ensures { Listing (marked mask.now) n self.new.count self.new.places }
+    {
+        self.count = 0;
+        for i in 0..n {
+            self.list_stage(i, mask);
+        }
     }
 
     // The stage at place q of the list.

@@ -1,5 +1,6 @@
 // How many rows of n numbers a sheet has, how many numbers, and how many bytes its file: in reading 3 the weights are
-// one row more (document 02, U10).
+// one row more (document 02, U10). A reading is the number that a caller hands over and no enum: what is promised holds for
+// every number.
 #![tactic(auto)]
 
 ghost use Rattle.std.specs.Prelude.{◌≡◌, ◌≤◌};

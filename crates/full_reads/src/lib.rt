@@ -15,6 +15,7 @@ pub fn read_full<R: Read>(input: &mut R, area: &mut [u8]) -> io::Result<usize>
     ensures end { IfOk result (λ taken. taken < length area.new → IsAtEnd (R.remaining input.new)) }
 {
     let mut taken = 0;
+    // Not by place: each turn takes as many bytes as come.
     while taken < area.len() {
         let more = input.read(&mut area[taken..])?;
         if more == 0 {

@@ -1,9 +1,11 @@
-// A 64-bit word as 16 hexadecimal digits, written into a lent buffer of bytes as `digits` writes.
+// A 64-bit word as 16 hexadecimal digits, written into a lent buffer.
 #![tactic(auto)]
 
 ghost use Rattle.std.specs.Prelude.{◌≡◌, cond, ◌+◌, ◌<◌, ltb};
 ghost use Rattle.definitions.specs.Dwell.{hexadecimal};
 ghost use Rattle.buffer.specs.Pasted.{Room, Written};
+
+use buffer::Writer;
 
 fn hexadecimal_digit(value: u8) -> u8
     requires { value < 16 }
@@ -15,15 +17,16 @@ fn hexadecimal_digit(value: u8) -> u8
     b'a' - 10 + value
 }
 
-// The 16 digits are written from the last to the first.
-pub fn put_hexadecimal(word: u64, at: usize, out: &mut [u8]) -> usize
-    requires { Room (hexadecimal 16 word) at out.old }
-    ensures { Written (hexadecimal 16 word) at out.old out.new result }
+// The 16 digits are found from the last to the first.
+pub fn put_hexadecimal(word: u64, out: &mut Writer<'_>)
+    requires { Room (hexadecimal 16 word) out.old }
+    ensures { Written (hexadecimal 16 word) out.old out.new }
 {
+    let mut digits = [0; 16];
     let mut rest = word;
     for k in (0..16).rev() {
-        out[at + k] = hexadecimal_digit((rest % 16) as u8);
+        digits[k] = hexadecimal_digit((rest % 16) as u8);
         rest /= 16;
     }
-    at + 16
+    out.put_bytes(&digits);
 }

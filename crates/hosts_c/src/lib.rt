@@ -1,5 +1,6 @@
 // The static library for programs in C: each call of `hosts` under its name, with its promise. `include/yulanbowls.h`
-// declares them.
+// declares them. Each call stands here and in `hosts`, since a crate is a library or a static library for C and not both; C
+// hands over a sheet's reading, size, unit and numbers one by one and takes a refusal as numbers.
 #![tactic(auto)]
 
 ghost use Rattle.definitions.specs.File.{file_number_area, file_word_area};

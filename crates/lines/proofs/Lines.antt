@@ -1,9 +1,10 @@
--- The lines as the pieces that the writers write, one after another.
+-- The lines as the pieces that are written, one after another.
 use mathlib.Core.Path.{◌≡◌, refl}
-use mathlib.Core.List.{List, [], ◌∷◌, ◌++◌, append_assoc}
+use mathlib.Core.List.{[], ◌∷◌, ◌++◌, append_assoc}
 use Prim.Native.Nat.{ℕ, suc, ◌+◌}
 use native.Mathlib.Numerals.{add-one}
 use lib.Ieee.{Float, binary64, to_bits}
+use Rattle.buffer.specs.declared.Writer.{Writer}
 use Rattle.buffer.specs.Pasted.{Written}
 use Rattle.digits.proofs.Digits.{field}
 use Rattle.buffer.proofs.Pasting.{written_nothing}
@@ -31,8 +32,8 @@ unfolding table_lines
 table_grows x n m = refl
 
 -- No line and no row are written before the first.
-pub row-begun : (x : ℕ → ℕ → Float) (i at : ℕ) (bytes : List ℕ) → Written (row_lines x i 0) at bytes bytes at
-row-begun x i at bytes = rw (row-none x i) (written_nothing at bytes)
+pub row-begun : (x : ℕ → ℕ → Float) (i : ℕ) (out : Writer) → Written (row_lines x i 0) out out
+row-begun x i out = rw (row-none x i) (written_nothing out)
 
-pub table-begun : (x : ℕ → ℕ → Float) (n at : ℕ) (bytes : List ℕ) → Written (table_lines x n 0) at bytes bytes at
-table-begun x n at bytes = rw (table_none x n) (written_nothing at bytes)
+pub table-begun : (x : ℕ → ℕ → Float) (n : ℕ) (out : Writer) → Written (table_lines x n 0) out out
+table-begun x n out = rw (table_none x n) (written_nothing out)

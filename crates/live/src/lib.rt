@@ -17,17 +17,16 @@ fn live_stages(sheet: Sheet<'_>, live: &mut [bool; 32])
     }
 }
 
-// The list of the stages that are not idle, and their sizes and leaving rates, packed in s; other places of s are left
-// open.
-pub fn pack(sheet: Sheet<'_>, s: &mut [f64; 1024]) -> Stages
-    ensures { LivePacked sheet.entry.n sheet.entry.numbers.now result.count result.places s.new }
+// The sizes and leaving rates of the stages that are not idle, packed in s, and the list of these stages; other places
+// of s are left open.
+pub fn pack(sheet: Sheet<'_>, stages: &mut Stages, s: &mut [f64; 1024])
+    ensures { LivePacked sheet.entry.n sheet.entry.numbers.now stages.new.count stages.new.places s.new }
 {
     let mut live = [false; 32];
     let mut t = [0.0; 1024];
     live_stages(sheet, &mut live);
-    let stages = Stages::list(sheet.n, &live);
+    stages.list(sheet.n, &live);
     loading::sizes(sheet, &mut t);
     loading::rates(sheet, &mut t);
     stages.pack(&t, s);
-    stages
 }

@@ -24,9 +24,10 @@ fn solve_kept(
     requires { (n ≤ 32) × RatiosBefore n (table t.now) (vector d.now) n a.now k.now kept.now }
     ensures { KeptTable n (table t.now) (vector d.now) result x.new }
 {
+    let mut stages = Stages::none();
     let mut s = [0.0; 1024];
     let mut y = [0.0; 1024];
-    let stages = Stages::list(n, kept);
+    stages.list(n, kept);
     let scaled = kept::system(n, &stages, t, d, a, k, kept, &mut s);
     let none = [0.0; 0];
     if !elimination::solve(stages.count, &none, &mut s, &mut y) {

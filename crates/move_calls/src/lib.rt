@@ -3,6 +3,8 @@
 
 ghost use Rattle.move_calls.specs.MoveCalls.{MoveCall};
 
+use shape::sheets::Lent;
+
 // The sheet with its rates times 2^k, in the first places of the area, and its unit.
 pub fn move_sheet(
     reading: usize,
@@ -17,6 +19,12 @@ pub fn move_sheet(
 ) -> usize
     ensures { MoveCall reading n e sheet.now k area.old area.new unit.old unit.new row.new column.new result }
 {
-    let moved = moving::move_sheet(reading, n, e, sheet, k, area);
+    let lent = Lent {
+        reading,
+        n,
+        e,
+        numbers: sheet,
+    };
+    let moved = moving::move_sheet(lent, k, area);
     out_places::hand(moved, unit, row, column)
 }

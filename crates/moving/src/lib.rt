@@ -13,7 +13,7 @@ ghost use Rattle.rounding.specs.ResultRange.{size_within};
 ghost use Rattle.moving.specs.Promises.{have_room, Movable, MoveDone};
 
 use answers::{Question, Refusal};
-use shape::sheets::Sheet;
+use shape::sheets::{Lent, Sheet};
 
 // Whether every number is zero, or of a size from `least` to `most`.
 fn sizes_within(least: f64, most: f64, numbers: &[f64]) -> bool
@@ -78,25 +78,21 @@ fn move_numbers(k: i64, rates: &[f64], weights: &[f64], area: &mut [f64]) -> boo
 }
 
 // The sheet with its rates times 2^k, in the first places of the area, and its unit.
-pub fn move_sheet(
-    reading: usize,
-    n: usize,
-    e: i64,
-    sheet: &[f64],
-    k: i64,
-    area: &mut [f64],
-) -> Result<i64, Refusal>
-    ensures { MoveDone reading n e sheet.now k area.old area.new result }
+pub fn move_sheet(sheet: Lent<'_>, k: i64, area: &mut [f64]) -> Result<i64, Refusal>
+    ensures { MoveDone sheet.entry.reading sheet.entry.n sheet.entry.e sheet.entry.numbers.now k area.old area.new result }
 {
-    sheet::move_input(reading, n, e, sheet, area.len())?;
+    sheet::move_input(sheet, area.len())?;
     if !((-512 <= k) & (k <= 512)) {
         return Err(Question::Exponent.into());
     }
-    let unit = e + k;
+    let unit = sheet.e + k;
     if !((-512 <= unit) & (unit <= 512)) {
         return Err(Question::MovedUnit.into());
     }
-    let sheet = Sheet { n, numbers: sheet };
+    let sheet = Sheet {
+        n: sheet.n,
+        numbers: sheet.numbers,
+    };
     if !move_numbers(k, sheet.rates(), sheet.weights(), area) {
         return Err(Question::RoomToMove.into());
     }

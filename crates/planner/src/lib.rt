@@ -7,72 +7,48 @@ ghost use Rattle.definitions.specs.Questions.{pass, table_input, entry_input};
 ghost use Rattle.planner.specs.Promises.{TableDone, EntryDone};
 
 use answers::{Question, Refusal};
-use shape::sheets::Whole;
+use shape::sheets::{Lent, Whole};
 use tables::row;
 
 // The whole table of a sheet that passed questions 1 to 9. Nothing is written before question 10 passes too.
-fn table_of_sheet(
-    reading: usize,
-    n: usize,
-    e: i64,
-    sheet: &[f64],
-    answer: &mut [f64],
-) -> Result<usize, Refusal>
-    requires { table_input reading n e sheet.now (length answer.old) ≡ pass }
-    ensures { TableDone reading n e sheet.now answer.old answer.new result }
+fn table_of_sheet(sheet: Lent<'_>, answer: &mut [f64]) -> Result<usize, Refusal>
+    requires { table_input sheet.reading sheet.n sheet.e sheet.numbers.now (length answer.old) ≡ pass }
+    ensures { TableDone sheet.entry.reading sheet.entry.n sheet.entry.e sheet.entry.numbers.now answer.old answer.new result }
 {
     let mut x = [0.0; 1024];
-    if !readings::steps(Whole::new(reading, n, sheet), &mut x) {
+    let whole = Whole::new(sheet.reading, sheet.n, sheet.numbers);
+    if !readings::steps(whole, &mut x) {
         return Err(Question::InRange.into());
     }
-    writing::write(n, &x, answer);
-    Ok(allowance::allowance_of(reading, n))
+    writing::write(sheet.n, &x, answer);
+    Ok(allowance::allowance_of(sheet.reading, sheet.n))
 }
 
 // The whole table, row by row in the first n × n places of the answer area.
-pub fn whole_table(
-    reading: usize,
-    n: usize,
-    e: i64,
-    sheet: &[f64],
-    answer: &mut [f64],
-) -> Result<usize, Refusal>
-    ensures { TableDone reading n e sheet.now answer.old answer.new result }
+pub fn whole_table(sheet: Lent<'_>, answer: &mut [f64]) -> Result<usize, Refusal>
+    ensures { TableDone sheet.entry.reading sheet.entry.n sheet.entry.e sheet.entry.numbers.now answer.old answer.new result }
 {
-    sheet::table_input(reading, n, e, sheet, answer.len())?;
-    table_of_sheet(reading, n, e, sheet, answer)
+    sheet::table_input(sheet, answer.len())?;
+    table_of_sheet(sheet, answer)
 }
 
 // Entry (i, j), counted from 1, of a sheet that passed questions 1 to 9.
-fn entry_of_sheet(
-    reading: usize,
-    n: usize,
-    e: i64,
-    sheet: &[f64],
-    i: usize,
-    j: usize,
-) -> Result<f64, Refusal>
-    requires { entry_input reading n e sheet.now i j ≡ pass }
-    ensures { EntryDone reading n e sheet.now i j result }
+fn entry_of_sheet(sheet: Lent<'_>, i: usize, j: usize) -> Result<f64, Refusal>
+    requires { entry_input sheet.reading sheet.n sheet.e sheet.numbers.now i j ≡ pass }
+    ensures { EntryDone sheet.entry.reading sheet.entry.n sheet.entry.e sheet.entry.numbers.now i j result }
 {
     let mut table = [0.0; 1024];
-    if !readings::steps(Whole::new(reading, n, sheet), &mut table) {
+    let whole = Whole::new(sheet.reading, sheet.n, sheet.numbers);
+    if !readings::steps(whole, &mut table) {
         return Err(Question::InRange.into());
     }
     Ok(row::get(i - 1, j - 1, &table))
 }
 
 // One entry: the seconds that a request entering at stage i spends at stage j, counted from 1.
-pub fn one_entry(
-    reading: usize,
-    n: usize,
-    e: i64,
-    sheet: &[f64],
-    i: usize,
-    j: usize,
-) -> Result<f64, Refusal>
-    ensures { EntryDone reading n e sheet.now i j result }
+pub fn one_entry(sheet: Lent<'_>, i: usize, j: usize) -> Result<f64, Refusal>
+    ensures { EntryDone sheet.entry.reading sheet.entry.n sheet.entry.e sheet.entry.numbers.now i j result }
 {
-    sheet::entry_input(reading, n, e, sheet, i, j)?;
-    entry_of_sheet(reading, n, e, sheet, i, j)
+    sheet::entry_input(sheet, i, j)?;
+    entry_of_sheet(sheet, i, j)
 }

@@ -9,20 +9,13 @@ ghost use Rattle.answers.specs.Outcome.{ComesTo};
 ghost use Rattle.price_planner.specs.Promises.{PriceStepped, PricesDone};
 
 use answers::{Question, Refusal};
-use shape::sheets::Whole;
+use shape::sheets::{Lent, Whole};
 
 // The questions that come before the steps.
-fn ask(
-    reading: usize,
-    n: usize,
-    e: i64,
-    sheet: &[f64],
-    prices: &[f64],
-    room: usize,
-) -> Result<(), Refusal>
-    ensures { let given = prices.now in ComesTo (price_input reading n e sheet.now (length given) room then question19 n given) result }
+fn ask(sheet: Lent<'_>, prices: &[f64], room: usize) -> Result<(), Refusal>
+    ensures { let sheet = sheet.entry in let given = prices.now in ComesTo (price_input sheet.reading sheet.n sheet.e sheet.numbers.now (length given) room then question19 sheet.n given) result }
 {
-    sheet::price_input(reading, n, e, sheet, prices.len(), room)?;
+    sheet::price_input(sheet, prices.len(), room)?;
     prices::ask_prices(prices)
 }
 
@@ -40,37 +33,24 @@ fn steps(whole: Whole<'_>, prices: &[f64], p: &mut [f64; 32]) -> bool
 }
 
 // The prices of a sheet that passed the questions before 10. Nothing is written before question 10 passes too.
-fn prices_of_sheet(
-    reading: usize,
-    n: usize,
-    e: i64,
-    sheet: &[f64],
-    prices: &[f64],
-    answer: &mut [f64],
-) -> Result<usize, Refusal>
-    requires { (price_input reading n e sheet.now (length prices.now) (length answer.old) then question19 n prices.now) ≡ pass }
-    ensures { PricesDone reading n e sheet.now prices.now prices.now answer.old answer.new result }
+fn prices_of_sheet(sheet: Lent<'_>, prices: &[f64], answer: &mut [f64]) -> Result<usize, Refusal>
+    requires { (price_input sheet.reading sheet.n sheet.e sheet.numbers.now (length prices.now) (length answer.old) then question19 sheet.n prices.now) ≡ pass }
+    ensures { PricesDone sheet.entry.reading sheet.entry.n sheet.entry.e sheet.entry.numbers.now prices.now prices.now answer.old answer.new result }
 {
     let mut p = [0.0; 32];
-    if !steps(Whole::new(reading, n, sheet), prices, &mut p) {
+    let whole = Whole::new(sheet.reading, sheet.n, sheet.numbers);
+    if !steps(whole, prices, &mut p) {
         return Err(Question::InRange.into());
     }
-    writing::write_column(n, &p, answer);
-    Ok(allowance::allowance_of_prices(reading, n))
+    writing::write_column(sheet.n, &p, answer);
+    Ok(allowance::allowance_of_prices(sheet.reading, sheet.n))
 }
 
 // The price of a request that enters at each stage, in the first n places of the answer area, from the prices per
 // unit of time.
-pub fn request_prices(
-    reading: usize,
-    n: usize,
-    e: i64,
-    sheet: &[f64],
-    prices: &[f64],
-    answer: &mut [f64],
-) -> Result<usize, Refusal>
-    ensures { PricesDone reading n e sheet.now prices.now prices.now answer.old answer.new result }
+pub fn request_prices(sheet: Lent<'_>, prices: &[f64], answer: &mut [f64]) -> Result<usize, Refusal>
+    ensures { PricesDone sheet.entry.reading sheet.entry.n sheet.entry.e sheet.entry.numbers.now prices.now prices.now answer.old answer.new result }
 {
-    ask(reading, n, e, sheet, prices, answer.len())?;
-    prices_of_sheet(reading, n, e, sheet, prices, answer)
+    ask(sheet, prices, answer.len())?;
+    prices_of_sheet(sheet, prices, answer)
 }

@@ -21,7 +21,7 @@ fn diagonal_passes(reading: usize, sheet: Sheet<'_>) -> bool
     good
 }
 
-// Whether each number of a part is from `low` to `high`, or zero where zeros count.
+// Whether each number of a part is from `low` to `high`, or zero where zeros count: one loop for rates and weights.
 fn part_within(zeros: bool, low: f64, high: f64, part: &[f64]) -> bool
     ensures { T result → PartWithin zeros low high part.now }
 {

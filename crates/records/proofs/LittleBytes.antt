@@ -1,11 +1,12 @@
 -- Laws of `little_bytes`, a number in little-endian bytes: how many there are, and one byte more at the end.
 use Prim.Native.Nat.{ℕ, zero, suc, ◌+◌, ◌/◌, ◌%◌, ◌^◌}
-use mathlib.Core.List.{List, [], ◌∷◌, ◌++◌}
+use mathlib.Core.List.{[], ◌∷◌, ◌++◌}
 use mathlib.Core.Path.{◌≡◌, refl, sym, ap, ◌∙◌}
 use native.Mathlib.Nat.{pow-suc, pow-succ', div-one, div-div-eq-div-mul}
 use native.Mathlib.Numerals.{add-one}
 use lib.ListN.{length}
 use Rattle.definitions.specs.Saving.{little_bytes}
+use Rattle.buffer.specs.declared.Writer.{Writer}
 use Rattle.buffer.specs.Pasted.{Written}
 use Rattle.buffer.proofs.Pasting.{written_nothing}
 
@@ -32,6 +33,6 @@ little_grows number (suc k) =
     ap (λ l. number % 256 ∷ l) (little_grows (number / 256) k ∙ ap (λ m. little_bytes k (number / 256) ++ (m % 256 ∷ [])) same)
 
 -- No byte is written before the first.
-pub little-begun : (number at : ℕ) (bytes : List ℕ) → Written (little_bytes 0 number) at bytes bytes at
+pub little-begun : (number : ℕ) (out : Writer) → Written (little_bytes 0 number) out out
 unfolding little_bytes
-little-begun number at bytes = written_nothing at bytes
+little-begun number out = written_nothing out

@@ -9,6 +9,8 @@ ghost use Rattle.definitions.specs.Saving as saving;
 ghost use Rattle.definitions.specs.Saving.{little_bytes};
 ghost use Rattle.buffer.specs.Pasted.{Room, Written};
 
+use buffer::Writer;
+
 // The number in the `width` bytes from `at` on, little-endian; the bytes above them are zeros.
 pub fn number_at(bytes: &[u8], at: usize, width: usize) -> u64
     requires { (width ≤ 8) × (at + width ≤ length bytes.now) }
@@ -66,25 +68,23 @@ pub fn record_end(bytes: &[u8], at: usize) -> usize
     at + (6 + field_at(bytes, at, 4))
 }
 
-// Writes a number in `width` bytes, little-endian, as `buffer` writes; byte by byte, since the width may be above eight.
-pub fn put_number(number: u64, width: usize, at: usize, out: &mut [u8]) -> usize
-    requires { Room (little_bytes width number) at out.old }
-    ensures { Written (little_bytes width number) at out.old out.new result }
+// Writes a number in `width` bytes, little-endian; byte by byte, since the width may be above eight.
+pub fn put_number(number: u64, width: usize, out: &mut Writer<'_>)
+    requires { Room (little_bytes width number) out.old }
+    ensures { Written (little_bytes width number) out.old out.new }
 {
     let mut rest = number;
-    let mut next = at;
     for _ in 0..width {
-        next = buffer::put_byte((rest % 256) as u8, next, out);
+        out.put_byte((rest % 256) as u8);
         rest /= 256;
     }
-    next
 }
 
 // Writes what stands before a payload: its length and the kind of its record.
-pub fn put_header(length: usize, kind: usize, at: usize, out: &mut [u8]) -> usize
-    requires { Room (little_bytes 4 length ++ little_bytes 2 kind) at out.old }
-    ensures { Written (little_bytes 4 length ++ little_bytes 2 kind) at out.old out.new result }
+pub fn put_header(length: usize, kind: usize, out: &mut Writer<'_>)
+    requires { Room (little_bytes 4 length ++ little_bytes 2 kind) out.old }
+    ensures { Written (little_bytes 4 length ++ little_bytes 2 kind) out.old out.new }
 {
-    let next = put_number(length as u64, 4, at, out);
-    put_number(kind as u64, 2, next, out)
+    put_number(length as u64, 4, out);
+    put_number(kind as u64, 2, out);
 }

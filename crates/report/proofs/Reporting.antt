@@ -7,13 +7,13 @@ use mathlib.Core.List.{List, ◌++◌}
 use borrow.Author.Tests.{ltb-true, ltb-false}
 use lib.Dec.{ltb}
 use lib.IntN.{ℤ}
-use lib.ListN.{length, take, drop, length-map}
+use lib.ListN.{length, take, drop}
 use lib.Seq.{take_at, take_all, take-length, length-take-le}
-use lib.Ieee.{Float, binary64, of_bits}
+use lib.Ieee.{Float}
 use Rattle.exact.proofs.Cases.{by_bool}
 use Rattle.definitions.specs.Sheet.{sheet_numbers}
 use Rattle.definitions.specs.Services.{table_answer}
-use Rattle.definitions.specs.File.{file_answer, file_words, file_numbers, file_number_area, longest_file}
+use Rattle.definitions.specs.File.{file_answer, file_numbers, file_number_area, longest_file}
 use Rattle.definitions.specs.Dwell.{refused_line, table_text, file_text, dwell_text}
 use Rattle.buffer.specs.Pasted.{AtStart}
 use Rattle.buffer.proofs.Pasting.{count_within}
@@ -25,7 +25,7 @@ use Rattle.answers.specs.declared.Refusal.{Refusal}
 use Rattle.answers.specs.Answers.{number, told, head_told}
 use Rattle.counts.proofs.Counts.{numbers_few}
 use Rattle.file.proofs.Reading.{accepted, to_fill}
-use Rattle.payload.proofs.FileWords.{few_stages, words_due}
+use Rattle.payload.proofs.FileWords.{few_stages, words_due, as_many_words}
 use Rattle.planner.specs.Promises.{TableDone}
 use Rattle.report.specs.Reported.{Reported}
 
@@ -64,10 +64,9 @@ module _ (bytes : List ℕ) (before after : List Float) (room : length before �
     inside = rw count (numbers_few head.reading head.n stages)
 
     all-numbers : length (file_numbers bytes) ≡ places
-    unfolding file_numbers
     all-numbers =
         let filling = to_fill bytes (length before) answered in
-        length-map (file_words bytes) (λ word. of_bits binary64 word) ∙ words_due bytes head.n filling.0 filling.1 count
+        as_many_words bytes ∙ words_due bytes head.n filling.0 filling.1 count
 
     numbers : take places after ≡ file_numbers bytes
     numbers = rw starts (take_at (file_numbers bytes) _ places all-numbers)

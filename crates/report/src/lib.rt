@@ -8,14 +8,17 @@ ghost use Rattle.definitions.specs.Dwell.{table_text, file_text, dwell_text};
 ghost use Rattle.buffer.specs.Pasted.{AtStart};
 ghost use Rattle.report.specs.Reported.{Reported};
 
+use shape::sheets::Lent;
+
 // The text for a sheet: its table is made in an area of its own.
-fn table_text(reading: usize, n: usize, e: i64, sheet: &[f64], out: &mut [u8]) -> usize
-    requires { (n ≤ 32) × (32768 ≤ length out.old) }
-    ensures { let sheet = sheet.entry.now in AtStart (table_text reading n e sheet (table_answer reading n e sheet 1024)) out.old out.new result }
+fn table_text(sheet: Lent<'_>, out: &mut [u8]) -> usize
+    requires { (sheet.n ≤ 32) × (32768 ≤ length out.old) }
+    ensures { let sheet = sheet.entry in let numbers = sheet.numbers.now in
+        AtStart (table_text sheet.reading sheet.n sheet.e numbers (table_answer sheet.reading sheet.n sheet.e numbers 1024)) out.old out.new result }
 {
     let mut area = [0.0f64; 1024];
-    let table = planner::whole_table(reading, n, e, sheet, &mut area);
-    text::answer_text(table, n, e, &area, out)
+    let table = planner::whole_table(sheet, &mut area);
+    text::answer_text(table, sheet.n, sheet.e, &area, out)
 }
 
 // The text for the bytes of a file, at the start of `out`; later bytes stay as they were. Returns
@@ -28,7 +31,14 @@ pub fn answer(bytes: &[u8], out: &mut [u8]) -> usize
     match file::read(bytes, &mut area) {
         Ok(head) => {
             let places = counts::numbers(head.reading, head.n);
-            table_text(head.reading, head.n, head.e, &area[..places], out)
+            let numbers = &area[..places];
+            let sheet = Lent {
+                reading: head.reading,
+                n: head.n,
+                e: head.e,
+                numbers,
+            };
+            table_text(sheet, out)
         }
         Err(refusal) => {
             refusal::refused_text(refusal.question.into(), refusal.row, refusal.column, out)

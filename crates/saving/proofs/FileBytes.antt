@@ -1,4 +1,4 @@
--- The file of a sheet as the pieces that the writers write, one after another, and its length.
+-- The file of a sheet as the pieces that are written, one after another, and its length.
 use Prim.Native.Nat.{ℕ, zero, suc, ◌+◌, ◌-◌, ◌*◌, ◌≤◌, ◌<◌}
 use mathlib.Core.Bool.{Bool, true, false, cond}
 use mathlib.Core.List.{List, [], ◌∷◌, ◌++◌, map, append_assoc, append-nil}
@@ -14,6 +14,7 @@ use Rattle.definitions.specs.Sheet.{sheet_rows, sheet_numbers}
 use Rattle.definitions.specs.File.{head_length, file_length}
 use Rattle.definitions.specs.Saving.{little_bytes, record_bytes, complement, head_bytes, word_bytes, bytes_due, records_bytes, sheet_file}
 use Rattle.counts.proofs.Counts.{rows_of-numbers, numbers_few}
+use Rattle.buffer.specs.declared.Writer.{Writer}
 use Rattle.buffer.specs.Pasted.{Room, Written}
 use Rattle.buffer.proofs.Pasting.{written_nothing, room_first, room_next, written_next}
 use Rattle.records.proofs.LittleBytes.{length-little}
@@ -82,13 +83,13 @@ file_grows n words i =
     rw (records_grow n 1 i words, number)
 
 -- No word is written before the first, and no record.
-pub words-begun : (at : ℕ) (bytes : List ℕ) → Written (word_bytes []) at bytes bytes at
+pub words-begun : (out : Writer) → Written (word_bytes []) out out
 unfolding word_bytes
-words-begun at bytes = written_nothing at bytes
+words-begun out = written_nothing out
 
-pub records_begun : (n : ℕ) (words : List ℕ) (at : ℕ) (bytes : List ℕ) → Written (records_bytes n 1 0 words) at bytes bytes at
+pub records_begun : (n : ℕ) (words : List ℕ) (out : Writer) → Written (records_bytes n 1 0 words) out out
 unfolding records_bytes
-records_begun n words at bytes = written_nothing at bytes
+records_begun n words out = written_nothing out
 
 -- A sheet is short, and its words are whole rows of n.
 pub short : (reading n : ℕ) {held : ℕ} → held ≡ sheet_numbers reading n → n ≤ 32 → held ≤ 1056
@@ -129,21 +130,18 @@ unfolding sheet_file file_length
 length-file reading n e words held = rw (length-append, length_head, length_records reading n words held) (omega arith)
 
 -- Room for the file is room for its head, and then for its records, and together they are the file.
-module _ (reading n : ℕ) (e : ℤ) (words : List ℕ) {bytes : List ℕ} (held : length words ≡ sheet_numbers reading n) (fits : file_length reading n ≤ length bytes) where
-  pub whole_room : Room (sheet_file reading n e words) 0 bytes
-  whole_room = record { within = omega (arith, length-file reading n e words held) }
-
-  file_room : Room (head_bytes reading n e ++ records_of reading n words) 0 bytes
+module _ (reading n : ℕ) (e : ℤ) (words : List ℕ) (held : length words ≡ sheet_numbers reading n) {start : Writer} where
+  file_room : start.at ≡ 0 → file_length reading n ≤ length start.out.now → Room (head_bytes reading n e ++ records_of reading n words) start
   unfolding sheet_file
-  file_room = whole_room
+  file_room empty fits = record { within = omega (arith, empty, length-file reading n e words held) }
 
-  pub head_room : Room (head_bytes reading n e) 0 bytes
-  head_room = room_first (head_bytes reading n e) (records_of reading n words) file_room
+  pub head_room : start.at ≡ 0 → file_length reading n ≤ length start.out.now → Room (head_bytes reading n e) start
+  head_room empty fits = room_first (head_bytes reading n e) (records_of reading n words) (file_room empty fits)
 
-  module _ {at : ℕ} {after : List ℕ} (head : Written (head_bytes reading n e) 0 bytes after at) where
-    pub records_room : Room (records_of reading n words) at after
-    records_room = room_next (head_bytes reading n e) (records_of reading n words) file_room head
+  module _ {file : Writer} (head : Written (head_bytes reading n e) start file) (empty : start.at ≡ 0) (fits : file_length reading n ≤ length start.out.now) where
+    pub records_room : Room (records_of reading n words) file
+    records_room = room_next (head_bytes reading n e) (records_of reading n words) (file_room empty fits) head
 
-    pub file_written : {next : ℕ} {last : List ℕ} → Written (records_of reading n words) at after last next → Written (sheet_file reading n e words) 0 bytes last next
+    pub file_written : {last : Writer} → Written (records_of reading n words) file last → Written (sheet_file reading n e words) start last
     unfolding sheet_file
-    file_written written = written_next (head_bytes reading n e) (records_of reading n words) file_room head written
+    file_written written = written_next (head_bytes reading n e) (records_of reading n words) (file_room empty fits) head written

@@ -8,30 +8,29 @@ ghost use Rattle.definitions.specs.Questions.{exponent_in_range};
 ghost use Rattle.definitions.specs.Saving.{little_bytes, record_bytes, head_bytes, word_bytes, bytes_due, sheet_file};
 ghost use Rattle.buffer.specs.Pasted.{Room, Written, AtStart};
 
+use buffer::Writer;
 use records::{put_header, put_number};
 use rounding::Word;
 
 #[tactic(auto, using(crate::proofs::FileBytes::lengths), unfolding(definitions::specs::Saving::head_bytes, definitions::specs::Saving::record_bytes))]
-fn put_head(reading: usize, n: usize, e: i64, at: usize, out: &mut [u8]) -> usize
-    requires { T (exponent_in_range e) × Room (head_bytes reading n e) at out.old }
-    ensures { Written (head_bytes reading n e) at out.old out.new result }
+fn put_head(reading: usize, n: usize, e: i64, out: &mut Writer<'_>)
+    requires { T (exponent_in_range e) × Room (head_bytes reading n e) out.old }
+    ensures { Written (head_bytes reading n e) out.old out.new }
 {
     let unit = records::complement(e);
-    let payload = put_header(6, 1, at, out);
-    let after_reading = put_number(reading as u64, 2, payload, out);
-    let after_n = put_number(n as u64, 2, after_reading, out);
-    put_number(unit, 2, after_n, out)
+    put_header(6, 1, out);
+    put_number(reading as u64, 2, out);
+    put_number(n as u64, 2, out);
+    put_number(unit, 2, out);
 }
 
-fn put_words<W: Word>(numbers: &[W], at: usize, out: &mut [u8]) -> usize
-    requires { Room (word_bytes (map W.word_of numbers.now)) at out.old }
-    ensures { Written (word_bytes (map W.word_of numbers.now)) at out.old out.new result }
+fn put_words<W: Word>(numbers: &[W], out: &mut Writer<'_>)
+    requires { Room (word_bytes (map W.word_of numbers.now)) out.old }
+    ensures { Written (word_bytes (map W.word_of numbers.now)) out.old out.new }
 {
-    let mut next = at;
     for number in numbers {
-        next = put_number(number.to_word(), 8, next, out);
+        put_number(number.to_word(), 8, out);
     }
-    next
 }
 
 // A record of numbers behind a number of `width` bytes, which is none where that is 0.
@@ -41,26 +40,26 @@ fn put_record<W: Word>(
     number: usize,
     width: usize,
     numbers: &[W],
-    at: usize,
-    out: &mut [u8],
-) -> usize
-    requires { (width ≤ 2) × Room (record_bytes kind (little_bytes width number ++ word_bytes (map W.word_of numbers.now))) at out.old }
-    ensures { Written (record_bytes kind (little_bytes width number ++ word_bytes (map W.word_of numbers.now))) at out.old out.new result }
+    out: &mut Writer<'_>,
+)
+    requires { (width ≤ 2) × Room (record_bytes kind (little_bytes width number ++ word_bytes (map W.word_of numbers.now))) out.old }
+    ensures { Written (record_bytes kind (little_bytes width number ++ word_bytes (map W.word_of numbers.now))) out.old out.new }
 {
-    let payload = put_header(width + 8 * numbers.len(), kind, at, out);
-    let next = put_number(number as u64, width, payload, out);
-    put_words(numbers, next, out)
+    put_header(width + 8 * numbers.len(), kind, out);
+    put_number(number as u64, width, out);
+    put_words(numbers, out);
 }
 
 // The record due: a row with its number, or behind the last row the weights, which have none.
-fn put_due<W: Word>(n: usize, due: usize, numbers: &[W], at: usize, out: &mut [u8]) -> usize
-    requires { Room (bytes_due n due (map W.word_of numbers.now)) at out.old }
-    ensures { Written (bytes_due n due (map W.word_of numbers.now)) at out.old out.new result }
+fn put_due<W: Word>(n: usize, due: usize, numbers: &[W], out: &mut Writer<'_>)
+    requires { Room (bytes_due n due (map W.word_of numbers.now)) out.old }
+    ensures { Written (bytes_due n due (map W.word_of numbers.now)) out.old out.new }
 {
     if n < due {
-        return put_record(3, 0, 0, numbers, at, out);
+        put_record(3, 0, 0, numbers, out);
+        return;
     }
-    put_record(2, due, 2, numbers, at, out)
+    put_record(2, due, 2, numbers, out);
 }
 
 // The whole file of a sheet, each number by its word; returns its length. Rows are cut by place and not as chunks, since
@@ -70,10 +69,11 @@ pub fn put_sheet<W: Word>(reading: usize, n: usize, e: i64, sheet: &[W], out: &m
     ensures { AtStart (sheet_file reading n e (map W.word_of sheet.now)) out.old out.new result }
 {
     let rows = counts::rows(reading, n);
-    let mut at = put_head(reading, n, e, 0, out);
+    let mut file = Writer { out, at: 0 };
+    put_head(reading, n, e, &mut file);
     for i in 0..rows {
         let first = i * n;
-        at = put_due(n, i + 1, &sheet[first..first + n], at, out);
+        put_due(n, i + 1, &sheet[first..first + n], &mut file);
     }
-    at
+    file.at
 }

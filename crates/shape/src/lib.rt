@@ -1,10 +1,10 @@
 // Questions 1 to 5 of document 01: the reading, the number of stages, the lengths of the lent areas and the
 // stages asked for, with 12 of the unit among them, and those of moving, saving, one column and prices (document 02,
-// U1, U2, U4, U5, U7 and U10). Their refusals have no row and no column. And the number at a place of a sheet of that
-// shape.
+// U1, U2, U4, U5, U7 and U10). Their refusals have no row and no column. A sheet that passed them is a value of its own,
+// with what they leave known of it.
 #![tactic(auto)]
 
-ghost use Rattle.std.specs.Prelude.{◌*◌};
+ghost use Rattle.std.specs.Prelude.{◌*◌, length};
 ghost use Rattle.definitions.specs.Sheet.{sheet_numbers};
 ghost use Rattle.definitions.specs.Questions.{◌then◌, shape_questions, question4, question5};
 ghost use Rattle.definitions.specs.Saving.{save_questions};
@@ -13,6 +13,7 @@ ghost use Rattle.definitions.specs.Prices.{price_shape};
 ghost use Rattle.answers.specs.Outcome.{CallComesTo};
 
 use answers::Question;
+use sheets::Lent;
 
 pub mod sheets;
 
@@ -35,29 +36,32 @@ fn ask_shape(reading: usize, n: usize, e: i64, held: usize) -> Result<(), Questi
     Ok(())
 }
 
-// Questions 1 to 4, those of the whole table: `held` and `room` are the lengths of the sheet and of the answer area.
-pub fn ask_table(reading: usize, n: usize, e: i64, held: usize, room: usize) -> Result<(), Question>
-    ensures { CallComesTo (shape_questions reading n e held then question4 (n * n) room) result }
+// Questions 1 to 4, those of the whole table: `room` is the length of the answer area.
+pub fn ask_table(sheet: Lent<'_>, room: usize) -> Result<(), Question>
+    ensures { let sheet = sheet.entry in
+        CallComesTo (shape_questions sheet.reading sheet.n sheet.e (length sheet.numbers.now) then question4 (sheet.n * sheet.n) room) result }
 {
-    ask_shape(reading, n, e, held)?;
-    if room < n * n {
+    ask_shape(sheet.reading, sheet.n, sheet.e, sheet.numbers.len())?;
+    if room < sheet.n * sheet.n {
         return Err(Question::Room);
     }
     Ok(())
 }
 
 // The same for moving, whose second area takes as many numbers as the sheet has.
-pub fn ask_move(reading: usize, n: usize, e: i64, held: usize, room: usize) -> Result<(), Question>
-    ensures { CallComesTo (shape_questions reading n e held then question4 (sheet_numbers reading n) room) result }
+pub fn ask_move(sheet: Lent<'_>, room: usize) -> Result<(), Question>
+    ensures { let sheet = sheet.entry in
+        CallComesTo (shape_questions sheet.reading sheet.n sheet.e (length sheet.numbers.now) then question4 (sheet_numbers sheet.reading sheet.n) room) result }
 {
-    ask_shape(reading, n, e, held)?;
+    let held = sheet.numbers.len();
+    ask_shape(sheet.reading, sheet.n, sheet.e, held)?;
     if room < held {
         return Err(Question::Room);
     }
     Ok(())
 }
 
-// Questions 1 to 4 of saving: `room` is the number of bytes lent.
+// Questions 1 to 4 of saving, whose sheet may stand in words: `held` is its length, and `room` the number of bytes lent.
 pub fn ask_save(reading: usize, n: usize, e: i64, held: usize, room: usize) -> Result<(), Question>
     ensures { CallComesTo (save_questions reading n e held room) result }
 {
@@ -69,18 +73,12 @@ pub fn ask_save(reading: usize, n: usize, e: i64, held: usize, room: usize) -> R
 }
 
 // Questions 1, 2, 3 and 5, those of one entry: row i and column j, counted from 1.
-pub fn ask_entry(
-    reading: usize,
-    n: usize,
-    e: i64,
-    held: usize,
-    i: usize,
-    j: usize,
-) -> Result<(), Question>
-    ensures { CallComesTo (shape_questions reading n e held then question5 n i j) result }
+pub fn ask_entry(sheet: Lent<'_>, i: usize, j: usize) -> Result<(), Question>
+    ensures { let sheet = sheet.entry in
+        CallComesTo (shape_questions sheet.reading sheet.n sheet.e (length sheet.numbers.now) then question5 sheet.n i j) result }
 {
-    ask_shape(reading, n, e, held)?;
-    if !((1 <= i) & (i <= n) & ((1 <= j) & (j <= n))) {
+    ask_shape(sheet.reading, sheet.n, sheet.e, sheet.numbers.len())?;
+    if !((1 <= i) & (i <= sheet.n) & ((1 <= j) & (j <= sheet.n))) {
         return Err(Question::StageAsked);
     }
     Ok(())
@@ -88,24 +86,18 @@ pub fn ask_entry(
 
 // Questions 1 to 5 of one column, of reading 1 alone: `room` is the length of the answer area, which takes n
 // numbers, and the stage is counted from 1.
-pub fn ask_column(
-    reading: usize,
-    n: usize,
-    e: i64,
-    held: usize,
-    room: usize,
-    stage: usize,
-) -> Result<(), Question>
-    ensures { CallComesTo (column_shape reading n e held room stage) result }
+pub fn ask_column(sheet: Lent<'_>, room: usize, stage: usize) -> Result<(), Question>
+    ensures { let sheet = sheet.entry in
+        CallComesTo (column_shape sheet.reading sheet.n sheet.e (length sheet.numbers.now) room stage) result }
 {
-    if reading != 1 {
+    if sheet.reading != 1 {
         return Err(Question::Reading);
     }
-    ask_shape(1, n, e, held)?;
-    if room < n {
+    ask_shape(1, sheet.n, sheet.e, sheet.numbers.len())?;
+    if room < sheet.n {
         return Err(Question::Room);
     }
-    if !((1 <= stage) & (stage <= n)) {
+    if !((1 <= stage) & (stage <= sheet.n)) {
         return Err(Question::StageAsked);
     }
     Ok(())
@@ -113,21 +105,15 @@ pub fn ask_column(
 
 // Questions 1 to 4 and 18 of prices: `given` is how many there are, and `room` the length of the answer area, which
 // takes n numbers.
-pub fn ask_prices(
-    reading: usize,
-    n: usize,
-    e: i64,
-    held: usize,
-    given: usize,
-    room: usize,
-) -> Result<(), Question>
-    ensures { CallComesTo (price_shape reading n e held given room) result }
+pub fn ask_prices(sheet: Lent<'_>, given: usize, room: usize) -> Result<(), Question>
+    ensures { let sheet = sheet.entry in
+        CallComesTo (price_shape sheet.reading sheet.n sheet.e (length sheet.numbers.now) given room) result }
 {
-    ask_shape(reading, n, e, held)?;
-    if n > room {
+    ask_shape(sheet.reading, sheet.n, sheet.e, sheet.numbers.len())?;
+    if sheet.n > room {
         return Err(Question::Room);
     }
-    if given != n {
+    if given != sheet.n {
         return Err(Question::PriceCount);
     }
     Ok(())

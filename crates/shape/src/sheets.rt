@@ -1,8 +1,18 @@
-// A lent sheet with its shape, as questions 2 and 3 leave it.
+// A sheet as it is lent, and with its shape, as questions 2 and 3 leave it.
 
 ghost use Rattle.std.specs.Prelude.{◌*◌, ◌<◌, ◌≡◌, take, drop};
 ghost use Rattle.definitions.specs.Sheet.{place};
+ghost use Rattle.definitions.specs.Accuracy.{Binary64};
 ghost use Rattle.shape.specs.Square.{Square, WholeSheet};
+
+// A sheet before any question: its reading, number of stages and unit, 2^e seconds, and its numbers.
+#[derive(Clone, Copy)]
+pub struct Lent<'a> {
+    pub reading: usize,
+    pub n: usize,
+    pub e: i64,
+    pub numbers: &'a [f64],
+}
 
 // At most 32 stages, and at least a number for each pair of them.
 #[derive(Clone, Copy)]
@@ -47,9 +57,11 @@ pub struct Whole<'a> {
 }
 
 impl<'a> Whole<'a> {
+    // The facts of both types from the one that the questions leave. The type of the numbers says that they are binary64,
+    // which the accuracy of a table asks for.
     pub fn new(reading: usize, n: usize, numbers: &'a [f64]) -> Whole<'a>
         requires { WholeSheet reading n numbers.now }
-        ensures { (result.reading ≡ reading) × (result.sheet.n ≡ n) × (result.sheet.numbers.now ≡ numbers.now) }
+        ensures { (result.reading ≡ reading) × (result.sheet.n ≡ n) × (result.sheet.numbers.now ≡ numbers.now) × Binary64 numbers.now }
     {
         let sheet = Sheet { n, numbers };
         Whole { reading, sheet }

@@ -11,7 +11,7 @@ ghost use Rattle.answers.specs.Outcome.{ComesTo};
 
 use answers::Refusal;
 use places::{ask_finite, ask_signs, ask_sizes};
-use shape::sheets::Whole;
+use shape::sheets::{Lent, Whole};
 
 // Questions 6, 7 and 8. The quick pass tells that all numbers are good; where it does not, the searches
 // find the first bad place.
@@ -40,74 +40,41 @@ fn ask_numbers(nine: bool, whole: Whole<'_>) -> Result<(), Refusal>
 }
 
 // The questions of the whole table that come before its steps; `room` is the length of the answer area.
-pub fn table_input(
-    reading: usize,
-    n: usize,
-    e: i64,
-    sheet: &[f64],
-    room: usize,
-) -> Result<(), Refusal>
-    ensures { ComesTo (table_input reading n e sheet.now room) result }
+pub fn table_input(sheet: Lent<'_>, room: usize) -> Result<(), Refusal>
+    ensures { let sheet = sheet.entry in ComesTo (table_input sheet.reading sheet.n sheet.e sheet.numbers.now room) result }
 {
-    shape::ask_table(reading, n, e, sheet.len(), room)?;
-    ask_numbers(true, Whole::new(reading, n, sheet))
+    shape::ask_table(sheet, room)?;
+    ask_numbers(true, Whole::new(sheet.reading, sheet.n, sheet.numbers))
 }
 
 // The same for the column of a stage, counted from 1; `room` is the length of its answer area.
-pub fn column_input(
-    reading: usize,
-    n: usize,
-    e: i64,
-    sheet: &[f64],
-    room: usize,
-    stage: usize,
-) -> Result<(), Refusal>
-    ensures { ComesTo (column_input reading n e sheet.now room stage) result }
+pub fn column_input(sheet: Lent<'_>, room: usize, stage: usize) -> Result<(), Refusal>
+    ensures { let sheet = sheet.entry in ComesTo (column_input sheet.reading sheet.n sheet.e sheet.numbers.now room stage) result }
 {
-    shape::ask_column(reading, n, e, sheet.len(), room, stage)?;
-    ask_numbers(true, Whole::new(1, n, sheet))
+    shape::ask_column(sheet, room, stage)?;
+    ask_numbers(true, Whole::new(1, sheet.n, sheet.numbers))
 }
 
 // The same for the entry at row i and column j, counted from 1.
-pub fn entry_input(
-    reading: usize,
-    n: usize,
-    e: i64,
-    sheet: &[f64],
-    i: usize,
-    j: usize,
-) -> Result<(), Refusal>
-    ensures { ComesTo (entry_input reading n e sheet.now i j) result }
+pub fn entry_input(sheet: Lent<'_>, i: usize, j: usize) -> Result<(), Refusal>
+    ensures { let sheet = sheet.entry in ComesTo (entry_input sheet.reading sheet.n sheet.e sheet.numbers.now i j) result }
 {
-    shape::ask_entry(reading, n, e, sheet.len(), i, j)?;
-    ask_numbers(true, Whole::new(reading, n, sheet))
+    shape::ask_entry(sheet, i, j)?;
+    ask_numbers(true, Whole::new(sheet.reading, sheet.n, sheet.numbers))
 }
 
 // The same for prices, 18 among them; `given` is how many there are, and `room` the length of the answer area.
-pub fn price_input(
-    reading: usize,
-    n: usize,
-    e: i64,
-    sheet: &[f64],
-    given: usize,
-    room: usize,
-) -> Result<(), Refusal>
-    ensures { ComesTo (price_input reading n e sheet.now given room) result }
+pub fn price_input(sheet: Lent<'_>, given: usize, room: usize) -> Result<(), Refusal>
+    ensures { let sheet = sheet.entry in ComesTo (price_input sheet.reading sheet.n sheet.e sheet.numbers.now given room) result }
 {
-    shape::ask_prices(reading, n, e, sheet.len(), given, room)?;
-    ask_numbers(true, Whole::new(reading, n, sheet))
+    shape::ask_prices(sheet, given, room)?;
+    ask_numbers(true, Whole::new(sheet.reading, sheet.n, sheet.numbers))
 }
 
 // The questions of moving that come before its own; `area` is the length of the second area.
-pub fn move_input(
-    reading: usize,
-    n: usize,
-    e: i64,
-    sheet: &[f64],
-    area: usize,
-) -> Result<(), Refusal>
-    ensures { ComesTo (move_input reading n e sheet.now area) result }
+pub fn move_input(sheet: Lent<'_>, area: usize) -> Result<(), Refusal>
+    ensures { let sheet = sheet.entry in ComesTo (move_input sheet.reading sheet.n sheet.e sheet.numbers.now area) result }
 {
-    shape::ask_move(reading, n, e, sheet.len(), area)?;
-    ask_numbers(false, Whole::new(reading, n, sheet))
+    shape::ask_move(sheet, area)?;
+    ask_numbers(false, Whole::new(sheet.reading, sheet.n, sheet.numbers))
 }

@@ -3,6 +3,8 @@
 
 ghost use Rattle.table_calls.specs.TableCalls.{TableCall, ColumnCall, EntryCall, PricesCall};
 
+use shape::sheets::Lent;
+
 // The whole table in the first n × n places of the answer area, and its allowance.
 pub fn table(
     reading: usize,
@@ -16,7 +18,13 @@ pub fn table(
 ) -> usize
     ensures { TableCall reading n e sheet.now answer.old answer.new allowance.old allowance.new row.new column.new result }
 {
-    let table = planner::whole_table(reading, n, e, sheet, answer);
+    let lent = Lent {
+        reading,
+        n,
+        e,
+        numbers: sheet,
+    };
+    let table = planner::whole_table(lent, answer);
     out_places::hand(table, allowance, row, column)
 }
 
@@ -34,7 +42,13 @@ pub fn column(
 ) -> usize
     ensures { ColumnCall reading n e sheet.now stage answer.old answer.new allowance.old allowance.new row.new column.new result }
 {
-    let told = column_planner::one_column(reading, n, e, sheet, stage, answer);
+    let lent = Lent {
+        reading,
+        n,
+        e,
+        numbers: sheet,
+    };
+    let told = column_planner::one_column(lent, stage, answer);
     out_places::hand(told, allowance, row, column)
 }
 
@@ -52,7 +66,13 @@ pub fn entry(
 ) -> usize
     ensures { EntryCall reading n e sheet.now i j seconds.old seconds.new row.new column.new result }
 {
-    let entry = planner::one_entry(reading, n, e, sheet, i, j);
+    let lent = Lent {
+        reading,
+        n,
+        e,
+        numbers: sheet,
+    };
+    let entry = planner::one_entry(lent, i, j);
     out_places::hand(entry, seconds, row, column)
 }
 
@@ -70,6 +90,12 @@ pub fn prices(
 ) -> usize
     ensures { PricesCall reading n e sheet.now prices.now prices.now answer.old answer.new allowance.old allowance.new row.new column.new result }
 {
-    let told = price_planner::request_prices(reading, n, e, sheet, prices, answer);
+    let lent = Lent {
+        reading,
+        n,
+        e,
+        numbers: sheet,
+    };
+    let told = price_planner::request_prices(lent, prices, answer);
     out_places::hand(told, allowance, row, column)
 }

@@ -2,13 +2,15 @@
 use mathlib.Core.Path.{◌≡◌, refl}
 use Prim.Native.Nat.{ℕ, zero, suc, ◌+◌, ◌*◌, ◌^◌, ◌≤◌, ◌<◌}
 use native.Mathlib.Omega.{arith}
-use mathlib.Core.List.{List, ◌++◌, append_assoc}
+use mathlib.Core.List.{◌++◌, append_assoc}
 use lib.IntN.{ℤ}
 use lib.ListN.{length, length-append}
 use lib.Signed.{mag}
 use lib.Ieee.{Float, binary64, to_bits}
 use Rattle.definitions.specs.Dwell.{text, seconds_line, entry_line, row_lines, table_lines}
-use Rattle.buffer.specs.Pasted.{Room}
+use Rattle.buffer.specs.declared.Writer.{Writer}
+use Rattle.buffer.specs.Pasted.{Room, Written}
+use Rattle.buffer.proofs.Pasting.{room_first, room_next, written_next}
 use Rattle.digits.proofs.Digits.{field, decimal-at-most, length-hexadecimal}
 use Rattle.digits.proofs.Integers.{signed_field, integer-at-most}
 use Rattle.lines.proofs.Lines.{entry_pieces, row-none, row_grows, table_none, table_grows}
@@ -38,10 +40,21 @@ module _ (x : ℕ → ℕ → Float) where
   length-table n (suc m) a b =
       rw (table_grows, length-append) (omega (arith, length-table n m a (omega arith), length-row m n (omega arith) a))
 
--- A whole text, and room for it in a buffer of 32,768 bytes.
-length_whole : (n allowed : ℕ) (e : ℤ) (x : ℕ → ℕ → Float) → n ≤ 32 → allowed < 10 ^ 20 → mag e < 2 ^ 63 → length (seconds_line n allowed e ++ table_lines x n n) ≤ 32768
-length_whole n allowed e x a b c = rw length-append (omega (arith, length_seconds n allowed e (omega arith) b c, length-table x n n a a))
+-- A buffer of 32,768 bytes has room for the first line, and then for the table, and together they are the text.
+module _ (n allowed : ℕ) (e : ℤ) (x : ℕ → ℕ → Float) (a : n ≤ 32) (b : allowed < 10 ^ 20) (c : mag e < 2 ^ 63) where
+  length_whole : length (seconds_line n allowed e ++ table_lines x n n) ≤ 32768
+  length_whole = rw length-append (omega (arith, length_seconds n allowed e (omega arith) b c, length-table x n n a a))
 
-pub seconds_room : (n allowed : ℕ) (e : ℤ) (x : ℕ → ℕ → Float) (out : List ℕ) → n ≤ 32 → allowed < 10 ^ 20 → mag e < 2 ^ 63 → 32768 ≤ length out
-    → Room (seconds_line n allowed e ++ table_lines x n n) 0 out
-seconds_room n allowed e x out a b c h = record { within = omega (arith, length_whole n allowed e x a b c) }
+  module _ {start : Writer} where
+    whole_room : start.at ≡ 0 → 32768 ≤ length start.out.now → Room (seconds_line n allowed e ++ table_lines x n n) start
+    whole_room empty h = record { within = omega (arith, empty, length_whole) }
+
+    pub line_room : start.at ≡ 0 → 32768 ≤ length start.out.now → Room (seconds_line n allowed e) start
+    line_room empty h = room_first (seconds_line n allowed e) (table_lines x n n) (whole_room empty h)
+
+    module _ {next : Writer} (line : Written (seconds_line n allowed e) start next) (empty : start.at ≡ 0) (h : 32768 ≤ length start.out.now) where
+      pub table_room : Room (table_lines x n n) next
+      table_room = room_next (seconds_line n allowed e) (table_lines x n n) (whole_room empty h) line
+
+      pub text_written : {last : Writer} → Written (table_lines x n n) next last → Written (seconds_line n allowed e ++ table_lines x n n) start last
+      text_written table = written_next (seconds_line n allowed e) (table_lines x n n) (whole_room empty h) line table

@@ -10,16 +10,17 @@ ghost use Rattle.buffer.specs.Pasted.{Room, Written, AtStart};
 ghost use Rattle.text.specs.AnswerText.{answer_text};
 
 use answers::Refusal;
+use buffer::Writer;
 
 // The first line of an accepted sheet: n, the allowance and e.
-fn put_seconds(n: usize, allowance: usize, e: i64, at: usize, out: &mut [u8]) -> usize
-    requires { Room (seconds_line n allowance e) at out.old }
-    ensures { Written (seconds_line n allowance e) at out.old out.new result }
+fn put_seconds(n: usize, allowance: usize, e: i64, out: &mut Writer<'_>)
+    requires { Room (seconds_line n allowance e) out.old }
+    ensures { Written (seconds_line n allowance e) out.old out.new }
 {
-    let after_word = buffer::put_bytes(b"seconds ", at, out);
-    let after_n = digits::put_field(n, b' ', after_word, out);
-    let after_allowance = digits::put_field(allowance, b' ', after_n, out);
-    digits::put_integer(e, b'\n', after_allowance, out)
+    out.put_bytes(b"seconds ");
+    digits::put_field(n, b' ', out);
+    digits::put_field(allowance, b' ', out);
+    digits::put_integer(e, b'\n', out);
 }
 
 // The lines of an accepted sheet, at the start of `out`; later bytes stay as they were. `answer`
@@ -28,8 +29,10 @@ fn seconds_text(n: usize, allowance: usize, e: i64, answer: &[f64], out: &mut [u
     requires { (n ≤ 32) × (n * n ≤ length answer.now) × (32768 ≤ length out.old) }
     ensures { AtStart (seconds_line n allowance e ++ table_lines (place n answer.now) n n) out.old out.new result }
 {
-    let after_line = put_seconds(n, allowance, e, 0, out);
-    lines::put_table(n, answer, after_line, out)
+    let mut text = Writer { out, at: 0 };
+    put_seconds(n, allowance, e, &mut text);
+    lines::put_table(n, answer, &mut text);
+    text.at
 }
 
 // The text for what the whole table's service answers; where it is accepted, `answer` holds the table.

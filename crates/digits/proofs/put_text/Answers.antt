@@ -1,4 +1,4 @@
--- `digits::put_text` meets its contract: two writers in a row. Assumes nothing.
+-- `digits::put_text` meets its contract: two texts in a row. Assumes nothing.
 use mathlib.Core.List.{[], ◌∷◌}
 use mathlib.Core.Path.{◌∙◌}
 use Rattle.buffer.proofs.Pasting.{written_next}
@@ -7,4 +7,4 @@ use Rattle.digits.proofs.put_text.Goals as goal
 pub returns : goal.returns
 returns g c =
     let text = c.as_bytes.ensures.value ∙ c.format.ensures.text in
-    written_next (g.I.Integer.text c.args.value) (c.args.end ∷ []) c.requires (rw text at c.put_bytes-next.ensures) c.put_byte.ensures
+    written_next (g.I.Integer.text c.args.value) (c.args.end ∷ []) c.requires (rw text at c.put_bytes.ensures) c.put_byte.ensures

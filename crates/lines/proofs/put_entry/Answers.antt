@@ -1,4 +1,4 @@
--- `lines::put_entry` meets its contract: four writers in a row write the pieces of the line. Assumes nothing.
+-- `lines::put_entry` meets its contract: four texts in a row are the pieces of the line. Assumes nothing.
 use mathlib.Core.List.{[], ◌∷◌}
 use Rattle.definitions.specs.Dwell.{hexadecimal}
 use Rattle.buffer.proofs.Pasting.{written_4}
@@ -12,4 +12,4 @@ returns c =
     let column = field c.args.column 32 in
     let bits = hexadecimal 16 c.to_word-word.result in
     let pieces = entry_pieces c.args.row c.args.column c.args.x c.to_word-word.result c.to_word-word.ensures in
-    rw pieces (written_4 row column bits (10 ∷ []) (rw pieces at c.requires) c.put_field-after_row.ensures c.put_field-after_column.ensures c.put_hexadecimal-after_bits.ensures c.put_byte.ensures)
+    rw pieces (written_4 row column bits (10 ∷ []) (rw pieces at c.requires) c.put_field.ensures c.put_field-2.ensures c.put_hexadecimal.ensures c.put_byte.ensures)

@@ -5,4 +5,4 @@ use Rattle.buffer.specs.Pasted.{Written}
 use Rattle.lines.proofs.put_row.Given as goal
 
 abbrev pub invariant-loop-j : goal.invariant-loop-j
-invariant-loop-j l = Written (row_lines (place l.n l.answer) l.i l.j) l.at l.initial.out l.out l.next
+invariant-loop-j l = Written (row_lines (place l.n l.answer) l.i l.j) l.initial.out l.out

@@ -5,4 +5,4 @@ use Rattle.buffer.specs.Pasted.{Written}
 use Rattle.lines.proofs.put_table.Given as goal
 
 abbrev pub invariant-loop-i : goal.invariant-loop-i
-invariant-loop-i l = Written (table_lines (place l.n l.answer) l.n l.i) l.at l.initial.out l.out l.next
+invariant-loop-i l = Written (table_lines (place l.n l.answer) l.n l.i) l.initial.out l.out

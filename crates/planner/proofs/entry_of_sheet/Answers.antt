@@ -8,14 +8,13 @@ use Rattle.rounding.proofs.Words.{zero_word}
 use Rattle.tables.proofs.Vectors.{new_table}
 use Rattle.shape.specs.Square.{WholeSheet}
 use Rattle.shape.proofs.ShapeQuestions.{entry-input-passed}
-use Rattle.definitions.specs.Accuracy.{Binary64}
 use Rattle.planner.proofs.Endings.{entry_given_lem, entry_out_of_range}
 use Rattle.planner.proofs.entry_of_sheet.Goals as goal
 use Rattle.planner.proofs.entry_of_sheet.Goals.{Start}
 
 -- What questions 1 to 9 leave.
-stages : (s : goal.Start) → WholeSheet s.args.reading s.args.n s.args.sheet.now × ((1 ≤ s.args.i) × (s.args.i ≤ s.args.n)) × ((1 ≤ s.args.j) × (s.args.j ≤ s.args.n))
-stages s = entry-input-passed s.args.reading s.args.n s.args.e s.args.sheet.now s.args.i s.args.j s.requires
+stages : (s : goal.Start) → WholeSheet s.args.sheet.reading s.args.sheet.n s.args.sheet.numbers.now × ((1 ≤ s.args.i) × (s.args.i ≤ s.args.sheet.n)) × ((1 ≤ s.args.j) × (s.args.j ≤ s.args.sheet.n))
+stages s = entry-input-passed s.args.sheet.reading s.args.sheet.n s.args.sheet.e s.args.sheet.numbers.now s.args.i s.args.j s.requires
 
 pub overflow_sub-i : goal.overflow_sub-i
 overflow_sub-i c = let p = stages (goal.at.overflow_sub-i c).Start in omega (arith, p.1, p.2)
@@ -29,16 +28,15 @@ get-requires c =
     (omega (arith, p.0.few, p.1, p.2), omega (arith, p.0.few, p.1, p.2))
 
 pub returns : goal.returns
-unfolding Binary64
 returns c =
-    entry_given_lem c.args.reading c.args.n c.args.e c.args.sheet.now c.args.i c.args.j c.requires (rw (c.new.ensures.0, c.new.ensures.1, c.new.ensures.2) at c.steps.ensures) (search rules) (search rules) c.get.ensures
+    entry_given_lem c.args.sheet.reading c.args.sheet.n c.args.sheet.e c.args.sheet.numbers.now c.args.i c.args.j c.requires (rw (c.new-whole.ensures.0, c.new-whole.ensures.1, c.new-whole.ensures.2) at c.steps.ensures) c.new-whole.ensures.3 (search rules) c.get.ensures
 
 pub returns-then-not-steps : goal.returns-then-not-steps
 returns-then-not-steps c =
-    entry_out_of_range c.args.reading c.args.n c.args.e c.args.sheet.now c.args.i c.args.j c.requires (rw (c.new.ensures.0, c.new.ensures.1, c.new.ensures.2) at c.steps.ensures) (ap (λ r. Err r) c.into.ensures) c.if-not-steps.true
+    entry_out_of_range c.args.sheet.reading c.args.sheet.n c.args.sheet.e c.args.sheet.numbers.now c.args.i c.args.j c.requires (rw (c.new-whole.ensures.0, c.new-whole.ensures.1, c.new-whole.ensures.2) at c.steps.ensures) (ap (λ r. Err r) c.into.ensures) c.if-not-steps.true
 
 pub steps-requires : goal.steps-requires
 steps-requires c = new_table zero_word
 
-pub new-requires : goal.new-requires
-new-requires c = (stages (goal.at.new-requires c).Start).0
+pub new-whole-requires : goal.new-whole-requires
+new-whole-requires c = (stages (goal.at.new-whole-requires c).Start).0

@@ -9,14 +9,13 @@ use Rattle.rounding.proofs.Words.{zero_word}
 use Rattle.tables.proofs.Vectors.{new_table}
 use Rattle.shape.specs.Square.{WholeSheet}
 use Rattle.shape.proofs.ShapeQuestions.{table-input-passed}
-use Rattle.definitions.specs.Accuracy.{Binary64}
 use Rattle.planner.proofs.Endings.{table_given, table_out_of_range}
 use Rattle.planner.proofs.table_of_sheet.Goals as goal
 use Rattle.planner.proofs.table_of_sheet.Goals.{Start}
 
 -- What questions 1 to 9 leave.
-input : (s : goal.Start) → WholeSheet s.args.reading s.args.n s.args.sheet.now × (s.args.n * s.args.n ≤ length s.args.answer.now)
-input s = table-input-passed s.args.reading s.args.n s.args.e s.args.sheet.now (length s.args.answer.now) s.requires
+input : (s : goal.Start) → WholeSheet s.args.sheet.reading s.args.sheet.n s.args.sheet.numbers.now × (s.args.sheet.n * s.args.sheet.n ≤ length s.args.answer.now)
+input s = table-input-passed s.args.sheet.reading s.args.sheet.n s.args.sheet.e s.args.sheet.numbers.now (length s.args.answer.now) s.requires
 
 pub write-requires : goal.write-requires
 write-requires c =
@@ -27,16 +26,15 @@ pub allowance_of-requires : goal.allowance_of-requires
 allowance_of-requires c = (input (goal.at.allowance_of-requires c).Start).0.few
 
 pub returns : goal.returns
-unfolding Binary64
 returns c =
-    table_given c.args.reading c.args.n c.args.e c.args.sheet.now c.args.answer.now c.requires (rw (c.new.ensures.0, c.new.ensures.1, c.new.ensures.2) at c.steps.ensures) (search rules) c.if-not-steps.false c.write.ensures c.allowance_of.ensures
+    table_given c.args.sheet.reading c.args.sheet.n c.args.sheet.e c.args.sheet.numbers.now c.args.answer.now c.requires (rw (c.new-whole.ensures.0, c.new-whole.ensures.1, c.new-whole.ensures.2) at c.steps.ensures) c.new-whole.ensures.3 c.if-not-steps.false c.write.ensures c.allowance_of.ensures
 
 pub returns-then-not-steps : goal.returns-then-not-steps
 returns-then-not-steps c =
-    table_out_of_range c.args.reading c.args.n c.args.e c.args.sheet.now c.args.answer.now c.requires (rw (c.new.ensures.0, c.new.ensures.1, c.new.ensures.2) at c.steps.ensures) (ap (λ r. Err r) c.into.ensures) (search rules)
+    table_out_of_range c.args.sheet.reading c.args.sheet.n c.args.sheet.e c.args.sheet.numbers.now c.args.answer.now c.requires (rw (c.new-whole.ensures.0, c.new-whole.ensures.1, c.new-whole.ensures.2) at c.steps.ensures) (ap (λ r. Err r) c.into.ensures) (search rules)
 
 pub steps-requires : goal.steps-requires
 steps-requires c = new_table zero_word
 
-pub new-requires : goal.new-requires
-new-requires c = (input (goal.at.new-requires c).Start).0
+pub new-whole-requires : goal.new-whole-requires
+new-whole-requires c = (input (goal.at.new-whole-requires c).Start).0

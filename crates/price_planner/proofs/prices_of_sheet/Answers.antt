@@ -15,18 +15,18 @@ use Rattle.price_planner.proofs.prices_of_sheet.Goals as goal
 use Rattle.price_planner.proofs.prices_of_sheet.Goals.{Start}
 
 -- What the questions before 19 leave.
-input : (s : goal.Start) → WholeSheet s.args.reading s.args.n s.args.sheet.now × (s.args.n ≤ length s.args.answer.now) × (length s.args.prices.now ≡ s.args.n)
+input : (s : goal.Start) → WholeSheet s.args.sheet.reading s.args.sheet.n s.args.sheet.numbers.now × (s.args.sheet.n ≤ length s.args.answer.now) × (length s.args.prices.now ≡ s.args.sheet.n)
 input s =
     let given = s.args.prices.now in
     let room = length s.args.answer.now in
-    price_input-passed s.args.reading s.args.n s.args.e s.args.sheet.now (length given) room
-    (then_first (price_input s.args.reading s.args.n s.args.e s.args.sheet.now (length given) room) (question19 s.args.n given) s.requires)
+    price_input-passed s.args.sheet.reading s.args.sheet.n s.args.sheet.e s.args.sheet.numbers.now (length given) room
+    (then_first (price_input s.args.sheet.reading s.args.sheet.n s.args.sheet.e s.args.sheet.numbers.now (length given) room) (question19 s.args.sheet.n given) s.requires)
 
 pub steps-requires : goal.steps-requires
-steps-requires c = (input (goal.at.steps-requires c).Start).2 ∙ sym c.new.ensures.1
+steps-requires c = (input (goal.at.steps-requires c).Start).2 ∙ sym c.new-whole.ensures.1
 
-pub new-requires : goal.new-requires
-new-requires c = (input (goal.at.new-requires c).Start).0
+pub new-whole-requires : goal.new-whole-requires
+new-whole-requires c = (input (goal.at.new-whole-requires c).Start).0
 
 pub write_column-requires : goal.write_column-requires
 write_column-requires c =
@@ -39,9 +39,9 @@ allowance_of_prices-requires c = (input (goal.at.allowance_of_prices-requires c)
 pub returns : goal.returns
 unfolding Binary64
 returns c =
-    prices_given c.args.reading c.args.n c.args.e c.args.sheet.now c.args.prices.now c.args.answer.now c.requires (rw (c.new.ensures.0, c.new.ensures.1, c.new.ensures.2) at c.steps.ensures)
-    (search rules) (search rules) c.if-not-steps.false c.write_column.ensures c.allowance_of_prices.ensures
+    prices_given c.args.sheet.reading c.args.sheet.n c.args.sheet.e c.args.sheet.numbers.now c.args.prices.now c.args.answer.now c.requires (rw (c.new-whole.ensures.0, c.new-whole.ensures.1, c.new-whole.ensures.2) at c.steps.ensures)
+    c.new-whole.ensures.3 (search rules) c.if-not-steps.false c.write_column.ensures c.allowance_of_prices.ensures
 
 pub returns-then-not-steps : goal.returns-then-not-steps
 returns-then-not-steps c =
-    prices_out_of_range c.args.reading c.args.n c.args.e c.args.sheet.now c.args.prices.now c.args.answer.now c.requires (rw (c.new.ensures.0, c.new.ensures.1, c.new.ensures.2) at c.steps.ensures) (ap (λ r. Err r) c.into.ensures) c.if-not-steps.true
+    prices_out_of_range c.args.sheet.reading c.args.sheet.n c.args.sheet.e c.args.sheet.numbers.now c.args.prices.now c.args.answer.now c.requires (rw (c.new-whole.ensures.0, c.new-whole.ensures.1, c.new-whole.ensures.2) at c.steps.ensures) (ap (λ r. Err r) c.into.ensures) c.if-not-steps.true

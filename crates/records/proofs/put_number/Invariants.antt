@@ -6,4 +6,4 @@ use Rattle.records.proofs.LittleBytes.{after}
 use Rattle.records.proofs.put_number.Given as goal
 
 abbrev pub invariant-loop : goal.invariant-loop
-invariant-loop l = (l.rest ≡ after l.counter l.number) × Written (little_bytes l.counter l.number) l.at l.initial.out l.out l.next
+invariant-loop l = (l.rest ≡ after l.counter l.number) × Written (little_bytes l.counter l.number) l.initial.out l.out

@@ -31,8 +31,8 @@ numbers-places-requires c = stages c.args.bytes.now _ _ refl c.in-Ok.ensures.res
 pub slice_bounds-area-end : goal.slice_bounds-area-end
 slice_bounds-area-end c = omega (arith, held c)
 
-pub slice_bounds-table_text-end : goal.slice_bounds-table_text-end
-slice_bounds-table_text-end c = simp length-take (omega (arith, held (goal.at.slice_bounds-table_text-end c).After-numbers-places))
+pub slice_bounds-numbers-end : goal.slice_bounds-numbers-end
+slice_bounds-numbers-end c = simp length-take (omega (arith, held (goal.at.slice_bounds-numbers-end c).After-numbers-places))
 
 pub table_text-requires : goal.table_text-requires
 table_text-requires c = (stages c.args.bytes.now _ _ refl c.in-Ok.ensures.result_value (c.in-Ok.ensures.area_after ∙ numbers_area _ _), c.requires)

@@ -1,4 +1,5 @@
 -- `report::table_text` meets its contract: the text for what the service answers and leaves in the area. Assumes nothing.
+use Rattle.std.proofs.Common.{rules}
 use mathlib.Core.Path.{refl}
 use native.Mathlib.Omega.{arith}
 use mir.Syntax.{w64}
@@ -11,8 +12,7 @@ pub answer_text-requires : goal.answer_text-requires
 answer_text-requires c =
     (c.requires.0, omega (arith, square_small c.requires.0), c.requires.1)
 
--- e is handed over by its bits, which mean e.
+-- The sheet holds e by its bits, which mean e.
 pub returns : goal.returns
 returns c =
-    let same = to_z-of_z w64 c.args.e c.ranges.e in
-    same_text (served_text c.args.reading c.args.n c.args.e c.args.sheet.now _ _ refl (rw same at c.whole_table-table.ensures)) (rw same at c.answer_text.ensures)
+    same_text (served_text c.args.sheet.reading c.args.sheet.n c.args.sheet.e c.args.sheet.numbers.now _ _ refl c.whole_table-table.ensures) (rw (to_z-of_z w64 c.args.sheet.e (search rules)) at c.answer_text.ensures)

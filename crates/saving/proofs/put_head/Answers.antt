@@ -1,4 +1,4 @@
--- `saving::put_head` meets its contract: four writers in a row. Assumes nothing.
+-- `saving::put_head` meets its contract: four texts in a row. Assumes nothing.
 use mathlib.Core.List.{◌++◌}
 use native.Mathlib.Omega.{arith}
 use mir.Syntax.{w64}
@@ -22,4 +22,4 @@ returns c =
     let pieces = head_pieces c.args.reading c.args.n c.args.e in
     let bits = rw (to_z-of_z w64 c.args.e c.ranges.e) at c.complement-unit.ensures in
     rw pieces
-    (written_4 header reading stages unit (rw pieces at c.requires.1) c.put_header-payload.ensures c.put_number-after_reading.ensures c.put_number-after_n.ensures (rw bits at c.put_number.ensures))
+    (written_4 header reading stages unit (rw pieces at c.requires.1) c.put_header.ensures c.put_number.ensures c.put_number-2.ensures (rw bits at c.put_number-3.ensures))

@@ -1,4 +1,4 @@
--- `saving::put_record` meets its contract: three writers in a row. Assumes nothing.
+-- `saving::put_record` meets its contract: three texts in a row. Assumes nothing.
 use mathlib.Core.List.{◌++◌, map}
 use mathlib.Core.Path.{◌∙◌}
 use native.Mathlib.Omega.{arith}
@@ -25,4 +25,4 @@ returns g c =
     let header = little_bytes 4 (c.args.width + 8 * length c.args.numbers.now) ++ little_bytes 2 c.args.kind in
     let number = little_bytes c.args.width c.args.number in
     let pieces = record_pieces c.args.kind c.args.number c.args.width all ∙ rw length-map in
-    rw pieces (written_3 header number (word_bytes all) (rw pieces at c.requires.1) c.put_header-payload.ensures c.put_number-next.ensures c.put_words.ensures)
+    rw pieces (written_3 header number (word_bytes all) (rw pieces at c.requires.1) c.put_header.ensures c.put_number.ensures c.put_words.ensures)

@@ -5,4 +5,4 @@ use Rattle.buffer.specs.Pasted.{Written}
 use Rattle.saving.proofs.put_sheet.Given as goal
 
 abbrev pub invariant-loop-i : goal.invariant-loop-i
-invariant-loop-i g l = Written (records_bytes l.n 1 l.i (map g.W.Word.word_of l.sheet)) l.initial.at l.initial.out l.out l.at
+invariant-loop-i g l = Written (records_bytes l.n 1 l.i (map g.W.Word.word_of l.sheet)) l.initial.file l.file

@@ -6,4 +6,4 @@ use Rattle.buffer.specs.Pasted.{Written}
 use Rattle.saving.proofs.put_words.Given as goal
 
 abbrev pub invariant-loop-number : goal.invariant-loop-number
-invariant-loop-number g l = Written (word_bytes (take l.number-index (map g.W.Word.word_of l.numbers))) l.at l.initial.out l.out l.next
+invariant-loop-number g l = Written (word_bytes (take l.number-index (map g.W.Word.word_of l.numbers))) l.initial.out l.out

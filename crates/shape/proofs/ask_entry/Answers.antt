@@ -1,4 +1,6 @@
 -- `shape::ask_entry` meets its contract. Assumes nothing.
+use Rattle.std.proofs.Common.{rules}
+use lib.ListN.{length}
 use mir.Syntax.{w64}
 use mir.ValLaws.{to_z-of_z}
 use Rattle.answers.proofs.Outcome.{Passes, goes_on}
@@ -9,12 +11,12 @@ use mathlib.Core.Bool.{not}
 use Rattle.shape.proofs.ask_entry.Goals as goal
 use Rattle.shape.proofs.ask_entry.Goals.{In_ok-ask_shape}
 
--- e is handed over by its bits, which mean e.
-asked : (c : goal.In_ok-ask_shape) → Passes (shape_questions c.args.reading c.args.n c.args.e c.args.held)
-asked c = rw (to_z-of_z w64 c.args.e c.ranges.e) at c.in_ok-ask_shape.ensures
+-- The sheet holds e by its bits, which mean e.
+asked : (c : goal.In_ok-ask_shape) → Passes (shape_questions c.args.sheet.reading c.args.sheet.n c.args.sheet.e (length c.args.sheet.numbers.now))
+asked c = rw (to_z-of_z w64 c.args.sheet.e (search rules)) at c.in_ok-ask_shape.ensures
 
-pub returns-then-not-i-n : goal.returns-then-not-i-n
-returns-then-not-i-n c = goes_on (asked (goal.at.returns-then-not-i-n c).In_ok-ask_shape) (bad_entry _ _ _ (ap not c.if-not-i-n.true))
+pub returns-then-not-i-sheet : goal.returns-then-not-i-sheet
+returns-then-not-i-sheet c = goes_on (asked (goal.at.returns-then-not-i-sheet c).In_ok-ask_shape) (bad_entry _ _ _ (ap not c.if-not-i-sheet.true))
 
 pub returns : goal.returns
-returns c = goes_on (asked (goal.at.returns c).In_ok-ask_shape) (good-entry _ _ _ (ap not c.if-not-i-n.false))
+returns c = goes_on (asked (goal.at.returns c).In_ok-ask_shape) (good-entry _ _ _ (ap not c.if-not-i-sheet.false))

@@ -1,4 +1,5 @@
 -- `shape::ask_prices` meets its contract. Assumes nothing.
+use lib.ListN.{length}
 use Rattle.std.proofs.Common.{rules}
 use mir.Syntax.{w64}
 use mir.ValLaws.{to_z-of_z}
@@ -9,21 +10,21 @@ use Rattle.shape.proofs.ShapeQuestions.{bad_room, good_room, bad_count, good_cou
 use Rattle.shape.proofs.ask_prices.Goals as goal
 use Rattle.shape.proofs.ask_prices.Goals.{In_ok-ask_shape}
 
--- e is handed over by its bits, which mean e.
-asked : (c : goal.In_ok-ask_shape) → Passes (shape_questions c.args.reading c.args.n c.args.e c.args.held)
-asked c = rw (to_z-of_z w64 c.args.e c.ranges.e) at c.in_ok-ask_shape.ensures
+-- The sheet holds e by its bits, which mean e.
+asked : (c : goal.In_ok-ask_shape) → Passes (shape_questions c.args.sheet.reading c.args.sheet.n c.args.sheet.e (length c.args.sheet.numbers.now))
+asked c = rw (to_z-of_z w64 c.args.sheet.e (search rules)) at c.in_ok-ask_shape.ensures
 
-pub returns-then-n-room : goal.returns-then-n-room
+pub returns-then-sheet-room : goal.returns-then-sheet-room
 unfolding price_shape
-returns-then-n-room c = goes_on (asked (goal.at.returns-then-n-room c).In_ok-ask_shape) (ends _ (bad_room _ _ c.if-n-room.true))
+returns-then-sheet-room c = goes_on (asked (goal.at.returns-then-sheet-room c).In_ok-ask_shape) (ends _ (bad_room _ _ c.if-sheet-room.true))
 
-pub returns-then-given-n : goal.returns-then-given-n
+pub returns-then-given-sheet : goal.returns-then-given-sheet
 unfolding price_shape
-returns-then-given-n c = goes_on (asked (goal.at.returns-then-given-n c).In_ok-ask_shape) (goes_on (good_room _ _ c.if-n-room.false) (bad_count _ _ c.if-given-n.true))
+returns-then-given-sheet c = goes_on (asked (goal.at.returns-then-given-sheet c).In_ok-ask_shape) (goes_on (good_room _ _ c.if-sheet-room.false) (bad_count _ _ c.if-given-sheet.true))
 
 pub returns : goal.returns
 unfolding price_shape
-returns c = goes_on (asked (goal.at.returns c).In_ok-ask_shape) (goes_on (good_room _ _ c.if-n-room.false) (good_count _ _ c.if-given-n.false))
+returns c = goes_on (asked (goal.at.returns c).In_ok-ask_shape) (goes_on (good_room _ _ c.if-sheet-room.false) (good_count _ _ c.if-given-sheet.false))
 
 pub returns-in_err-ask_shape : goal.returns-in_err-ask_shape
 unfolding price_shape

@@ -1,24 +1,14 @@
 -- `sheet::move_input` meets its contract. Assumes nothing.
-use mir.Syntax.{w64}
-use mir.ValLaws.{to_z-of_z}
-use lib.ListN.{length}
-use Rattle.definitions.specs.Sheet.{sheet_numbers}
-use Rattle.definitions.specs.Questions.{◌then◌, shape_questions, question4}
-use Rattle.answers.proofs.Outcome.{Passes, passed, goes_on, handed_on, in_other_words}
+use Rattle.answers.proofs.Outcome.{passed, goes_on, handed_on, in_other_words}
 use Rattle.shape.proofs.ShapeQuestions.{shape_passed}
 use Rattle.sheet.proofs.InOrder.{move_in_order}
 use Rattle.sheet.proofs.move_input.Goals as goal
-use Rattle.sheet.proofs.move_input.Goals.{In_ok-ask_move}
-
--- e is handed over by its bits, which mean e.
-asked : (c : goal.In_ok-ask_move) → Passes (shape_questions c.args.reading c.args.n c.args.e (length c.args.sheet.now) then question4 (sheet_numbers c.args.reading c.args.n) c.args.area)
-asked c = rw (to_z-of_z w64 c.args.e c.ranges.e) at c.in_ok-ask_move.ensures
 
 pub new-requires : goal.new-requires
-new-requires c = (shape_passed _ _ _ _ _ (passed (asked (goal.at.new-requires c).In_ok-ask_move))).0
+new-requires c = (shape_passed _ _ _ _ _ (passed c.in_ok-ask_move.ensures)).0
 
 pub returns : goal.returns
-returns c = in_other_words (move_in_order _ _ _ _ _) (goes_on (asked (goal.at.returns c).In_ok-ask_move) (rw (c.new.ensures.0, c.new.ensures.1, c.new.ensures.2) at c.ask_numbers.ensures))
+returns c = in_other_words (move_in_order _ _ _ _ _) (goes_on c.in_ok-ask_move.ensures (rw (c.new.ensures.0, c.new.ensures.1, c.new.ensures.2) at c.ask_numbers.ensures))
 
 pub returns-in_err-ask_move : goal.returns-in_err-ask_move
-returns-in_err-ask_move c = in_other_words (move_in_order _ _ _ _ _) (handed_on _ c.from_residual.ensures.1 (rw (to_z-of_z w64 c.args.e c.ranges.e) at c.in_err-ask_move.ensures))
+returns-in_err-ask_move c = in_other_words (move_in_order _ _ _ _ _) (handed_on _ c.from_residual.ensures.1 c.in_err-ask_move.ensures)

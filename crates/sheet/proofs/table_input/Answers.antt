@@ -1,24 +1,14 @@
 -- `sheet::table_input` meets its contract. Assumes nothing.
-use mir.Syntax.{w64}
-use mir.ValLaws.{to_z-of_z}
-use Prim.Native.Nat.{◌*◌}
-use lib.ListN.{length}
-use Rattle.definitions.specs.Questions.{◌then◌, shape_questions, question4}
-use Rattle.answers.proofs.Outcome.{Passes, passed, goes_on, handed_on, in_other_words}
+use Rattle.answers.proofs.Outcome.{passed, goes_on, handed_on, in_other_words}
 use Rattle.shape.proofs.ShapeQuestions.{shape_passed}
 use Rattle.sheet.proofs.InOrder.{table_in_order}
 use Rattle.sheet.proofs.table_input.Goals as goal
-use Rattle.sheet.proofs.table_input.Goals.{In_ok-ask_table}
-
--- e is handed over by its bits, which mean e.
-asked : (c : goal.In_ok-ask_table) → Passes (shape_questions c.args.reading c.args.n c.args.e (length c.args.sheet.now) then question4 (c.args.n * c.args.n) c.args.room)
-asked c = rw (to_z-of_z w64 c.args.e c.ranges.e) at c.in_ok-ask_table.ensures
 
 pub new-requires : goal.new-requires
-new-requires c = (shape_passed _ _ _ _ _ (passed (asked (goal.at.new-requires c).In_ok-ask_table))).0
+new-requires c = (shape_passed _ _ _ _ _ (passed c.in_ok-ask_table.ensures)).0
 
 pub returns : goal.returns
-returns c = in_other_words (table_in_order _ _ _ _ _) (goes_on (asked (goal.at.returns c).In_ok-ask_table) (rw (c.new.ensures.0, c.new.ensures.1, c.new.ensures.2) at c.ask_numbers.ensures))
+returns c = in_other_words (table_in_order _ _ _ _ _) (goes_on c.in_ok-ask_table.ensures (rw (c.new.ensures.0, c.new.ensures.1, c.new.ensures.2) at c.ask_numbers.ensures))
 
 pub returns-in_err-ask_table : goal.returns-in_err-ask_table
-returns-in_err-ask_table c = in_other_words (table_in_order _ _ _ _ _) (handed_on _ c.from_residual.ensures.1 (rw (to_z-of_z w64 c.args.e c.ranges.e) at c.in_err-ask_table.ensures))
+returns-in_err-ask_table c = in_other_words (table_in_order _ _ _ _ _) (handed_on _ c.from_residual.ensures.1 c.in_err-ask_table.ensures)

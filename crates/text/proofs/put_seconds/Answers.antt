@@ -1,4 +1,4 @@
--- `text::put_seconds` meets its contract: four writers in a row. Assumes nothing.
+-- `text::put_seconds` meets its contract: four texts in a row. Assumes nothing.
 use mathlib.Core.List.{◌++◌}
 use mir.Syntax.{w64}
 use mir.ValLaws.{to_z-of_z}
@@ -11,36 +11,35 @@ use Rattle.text.proofs.TextLengths.{seconds_pieces}
 use Rattle.text.proofs.put_seconds.Goals as goal
 use Rattle.text.proofs.put_seconds.Goals.{Start}
 
--- The pieces after the word, and room for all.
-
-room : (c : goal.Start) → Room (text "seconds " ++ (field c.args.n 32) ++ (field c.args.allowance 32) ++ (signed_field c.args.e 10)) c.args.at c.args.out.now
+-- Room for the pieces of the line.
+room : (c : goal.Start) → Room (text "seconds " ++ (field c.args.n 32) ++ (field c.args.allowance 32) ++ (signed_field c.args.e 10)) c.args.out.now
 room c = rw (seconds_pieces c.args.n c.args.allowance c.args.e) at c.requires
 
-pub put_bytes-after_word-requires : goal.put_bytes-after_word-requires
+pub put_bytes-requires : goal.put_bytes-requires
 unfolding text
-put_bytes-after_word-requires c =
-    room_1 (text "seconds ") (field c.args.n 32) (field c.args.allowance 32) (signed_field c.args.e 10) (room (goal.at.put_bytes-after_word-requires c).Start)
+put_bytes-requires c =
+    room_1 (text "seconds ") (field c.args.n 32) (field c.args.allowance 32) (signed_field c.args.e 10) (room (goal.at.put_bytes-requires c).Start)
 
-pub put_field-after_n-requires : goal.put_field-after_n-requires
+pub put_field-requires : goal.put_field-requires
 unfolding text
-put_field-after_n-requires c =
-    room_2 (text "seconds ") (field c.args.n 32) (field c.args.allowance 32) (signed_field c.args.e 10) (room (goal.at.put_field-after_n-requires c).Start) c.put_bytes-after_word.ensures
+put_field-requires c =
+    room_2 (text "seconds ") (field c.args.n 32) (field c.args.allowance 32) (signed_field c.args.e 10) (room (goal.at.put_field-requires c).Start) c.put_bytes.ensures
 
-pub put_field-after_allowance-requires : goal.put_field-after_allowance-requires
+pub put_field-requires-2 : goal.put_field-requires-2
 unfolding text
-put_field-after_allowance-requires c =
-    room_3 (text "seconds ") (field c.args.n 32) (field c.args.allowance 32) (signed_field c.args.e 10) (room (goal.at.put_field-after_allowance-requires c).Start) c.put_bytes-after_word.ensures c.put_field-after_n.ensures
+put_field-requires-2 c =
+    room_3 (text "seconds ") (field c.args.n 32) (field c.args.allowance 32) (signed_field c.args.e 10) (room (goal.at.put_field-requires-2 c).Start) c.put_bytes.ensures c.put_field.ensures
 
 -- e is handed over by its bits, which mean e.
 pub put_integer-requires : goal.put_integer-requires
 unfolding text
 put_integer-requires c =
     rw (to_z-of_z w64 c.args.e c.ranges.e)
-    (room_4 (text "seconds ") (field c.args.n 32) (field c.args.allowance 32) (signed_field c.args.e 10) (room (goal.at.put_integer-requires c).Start) c.put_bytes-after_word.ensures c.put_field-after_n.ensures c.put_field-after_allowance.ensures)
+    (room_4 (text "seconds ") (field c.args.n 32) (field c.args.allowance 32) (signed_field c.args.e 10) (room (goal.at.put_integer-requires c).Start) c.put_bytes.ensures c.put_field.ensures c.put_field-2.ensures)
 
 pub returns : goal.returns
 unfolding text
 returns c =
     rw (seconds_pieces c.args.n c.args.allowance c.args.e)
-    (written_4 (text "seconds ") (field c.args.n 32) (field c.args.allowance 32) (signed_field c.args.e 10) (room (goal.at.returns c).Start) c.put_bytes-after_word.ensures c.put_field-after_n.ensures c.put_field-after_allowance.ensures
+    (written_4 (text "seconds ") (field c.args.n 32) (field c.args.allowance 32) (signed_field c.args.e 10) (room (goal.at.returns c).Start) c.put_bytes.ensures c.put_field.ensures c.put_field-2.ensures
     (rw (to_z-of_z w64 c.args.e c.ranges.e) at c.put_integer.ensures))

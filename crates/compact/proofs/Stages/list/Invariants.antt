@@ -4,7 +4,7 @@ use Rattle.compact.specs.Listing.{marked, Listing}
 use Rattle.compact.proofs.Stages.list.Given as goal
 
 abbrev pub invariant-loop-i : goal.invariant-loop-i
-invariant-loop-i l = (l.i ≤ l.n) × Listing (marked l.mask) l.i l.count l.places
+invariant-loop-i l = (l.i ≤ l.n) × Listing (marked l.mask) l.i l.self.count l.self.places
 
 abbrev pub decreases-loop-i : goal.decreases-loop-i
 decreases-loop-i l = l.n - l.i
