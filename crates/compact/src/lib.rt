@@ -13,7 +13,7 @@ use tables::{row, vector};
 // A list of different stages at the front of its places; the later places are left open.
 #[derive(Drop)]
 pub struct Stages {
-    places: [usize; 32],
+    pub places: [usize; 32],
     pub count: usize,
     pub ghost few: { count ≤ 32 },
     pub ghost below: { StagesBelow 32 count places },
