@@ -8,7 +8,7 @@ use Rattle.answers.specs.declared.Question.TheVariants as question
 use Rattle.answers.specs.declared.Refusal.{Refusal}
 use Rattle.answers.specs.declared.Head.{Head}
 
--- The number of a question (document 01, "The questions, in order"; document 02, U4, U6 and U7).
+-- The number of a question (document 01, "The questions, in order"; document 02, U4, U5 and U7).
 abbrev pub number : Question → ℕ
 number question.Reading = 1
 number question.Stages = 2
@@ -30,7 +30,7 @@ number question.MovedUnit = 17
 number question.PriceCount = 18
 number question.Price = 19
 
--- The refusal of a question of the whole call.
+-- The refusal of a question of the whole call, which has no row and no column.
 abbrev pub of_call : Question → Refusal
 of_call asked = record { question = asked; row = 0; column = 0 }
 
@@ -39,11 +39,12 @@ abbrev pub asked : {A : Type 0} → Result A Refusal → Asked
 asked (Ok value) = pass
 asked (Err refusal) = refuse (number refusal.question) refusal.row refusal.column
 
--- What a service answers.
+-- What a service answers (document 01, "Which form goes where").
 abbrev pub told : {A : Type 0} → Result A Refusal → Answer A
 told (Ok value) = given value
 told (Err refusal) = refused (number refusal.question) refusal.row refusal.column
 
+-- The same of a sheet file: what its head says (document 01, "The sheet file"; document 02, U5).
 abbrev pub head_of : Head → file.Head
 head_of head = record { reading = head.reading; n = head.n; e = head.e }
 
