@@ -385,6 +385,19 @@ fn run_save<W: Word>(
     )
 }
 
+// The areas stand here and not in `run_case`, which would take their room for every case.
+fn run_save_words(rt: &impl Print, case: &[u8]) -> io::Result<()> {
+    let mut sheet = [0u64; PLACES];
+    let mut again = [101u64; PLACES];
+    run_save(rt, case, &mut sheet, &mut again)
+}
+
+fn run_save_numbers(rt: &impl Print, case: &[u8]) -> io::Result<()> {
+    let mut sheet = [0.0; PLACES];
+    let mut again = [0.5; PLACES];
+    run_save(rt, case, &mut sheet, &mut again)
+}
+
 // m: reading, n, e, the length of the second area, k, and the sheet's numbers.
 fn try_move(
     rt: &impl Print,
@@ -451,8 +464,8 @@ fn run_case(rt: &impl Print, case: &[u8]) -> io::Result<()> {
         b'e' => run_entry(rt, case),
         b'a' => run_entries(rt, case),
         b'f' => run_file(rt, case),
-        b's' => run_save(rt, case, &mut [0u64; PLACES], &mut [101u64; PLACES]),
-        b'n' => run_save(rt, case, &mut [0.0; PLACES], &mut [0.5; PLACES]),
+        b's' => run_save_words(rt, case),
+        b'n' => run_save_numbers(rt, case),
         b'm' => run_move(rt, case),
         _ => run_dwell(rt, case),
     }

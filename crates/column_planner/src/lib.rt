@@ -11,7 +11,6 @@ ghost use Rattle.tables.specs.Vectors.{ZeroVector};
 ghost use Rattle.column_planner.specs.Promises.{ColumnStepped, ColumnDone};
 
 use answers::{Question, Refusal};
-use compact::Stages;
 use shape::sheets::{Lent, Sheet, Whole};
 
 // Column j of a sheet without idle stages: its sizes and leaving rates go through the steps as they are.
@@ -31,10 +30,9 @@ fn live_stages(j: usize, sheet: Sheet<'_>, x: &mut [f64; 32]) -> bool
     requires { (j < sheet.n) × ZeroVector x.old }
     ensures { ColumnStepped sheet.entry.n sheet.entry.numbers.now j result x.new }
 {
-    let mut stages = Stages::none();
     let mut s = [0.0; 1024];
     let mut b = [0.0; 32];
-    live::pack(sheet, &mut stages, &mut s);
+    let stages = live::pack(sheet, &mut s);
     let place = stages.find(j);
     if !column::solve(stages.count, place.unwrap_or(stages.count), &mut s, &mut b) {
         return false;

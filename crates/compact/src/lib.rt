@@ -10,6 +10,52 @@ ghost use Rattle.compact.specs.Compact.{Packed, UnpackedRow, Unpacked, UnpackedV
 
 use tables::{row, vector};
 
+// The stage at place q of the list. This function and the next two ask nothing of what stands in the places.
+pub fn stage(q: usize, places: &[usize; 32]) -> usize
+    requires { q < 32 }
+    ensures { result ≡ stage_at places.now q }
+{
+    places[q]
+}
+
+// The place of stage i among the first r of the list, if it stands there.
+pub fn find(r: usize, places: &[usize; 32], i: usize) -> Option<usize>
+    requires { r ≤ 32 }
+    ensures { Found r places.now i result }
+{
+    for q in 0..r {
+        if stage(q, places) == i {
+            return Some(q);
+        }
+    }
+    None
+}
+
+// Stage i follows the r listed stages, which are those before it that the mask marks, if it is marked too. The result is
+// the new count.
+fn list_stage(i: usize, r: usize, mask: &[bool; 32], places: &mut [usize; 32]) -> usize
+    requires { (i < 32) × Listing (marked mask.now) i r places.old }
+    ensures { Listing (marked mask.now) (suc i) result places.new }
+{
+    if mask[i] {
+        places[r] = i;
+        return r + 1;
+    }
+    r
+}
+
+// The stages below n that the mask marks. The result is their count; later places of the list are left open.
+pub fn list(n: usize, mask: &[bool; 32], places: &mut [usize; 32]) -> usize
+    requires { n ≤ 32 }
+    ensures { Listing (marked mask.now) n result places.new }
+{
+    let mut r = 0;
+    for i in 0..n {
+        r = list_stage(i, r, mask, places);
+    }
+    r
+}
+
 // A list of different stages at the front of its places; the later places are left open.
 #[derive(Drop)]
 pub struct Stages {
@@ -21,7 +67,7 @@ pub struct Stages {
 }
 
 impl Stages {
-    // A list of no stage. A list is filled where it lies, for one that a call returns is copied on its way.
+    // A list of no stage.
     pub fn none() -> Self
         ensures { result.count ≡ 0 }
     {
@@ -31,26 +77,12 @@ impl Stages {
         }
     }
 
-    // Stage i follows the listed stages, which are those before it that the mask marks, if it is marked too.
-    fn list_stage(&mut self, i: usize, mask: &[bool; 32])
-        requires { (i < 32) × Listing (marked mask.now) i self.old.count self.old.places }
-        ensures { Listing (marked mask.now) (suc i) self.new.count self.new.places }
-    {
-        if mask[i] {
-            self.places[self.count] = i;
-            self.count = self.count + 1;
-        }
-    }
-
     // The list becomes that of the stages below n that the mask marks.
     pub fn list(&mut self, n: usize, mask: &[bool; 32])
         requires { n ≤ 32 }
         ensures { Listing (marked mask.now) n self.new.count self.new.places }
     {
-        self.count = 0;
-        for i in 0..n {
-            self.list_stage(i, mask);
-        }
+        self.count = list(n, mask, &mut self.places);
     }
 
     // The stage at place q of the list.
@@ -58,19 +90,14 @@ impl Stages {
         requires { q < 32 }
         ensures { result ≡ stage_at self.now.places q }
     {
-        self.places[q]
+        stage(q, &self.places)
     }
 
     // The place of stage i in the list, if it is listed.
     pub fn find(&self, i: usize) -> Option<usize>
         ensures { Found self.now.count self.now.places i result }
     {
-        for q in 0..self.count {
-            if self.stage(q) == i {
-                return Some(q);
-            }
-        }
-        None
+        find(self.count, &self.places, i)
     }
 
     fn pack_row(&self, p: usize, t: &[f64; 1024], s: &mut [f64; 1024])

@@ -19,9 +19,10 @@ fn live_stages(sheet: Sheet<'_>, live: &mut [bool; 32])
 
 // The sizes and leaving rates of the stages that are not idle, packed in s, and the list of these stages; other places
 // of s are left open.
-pub fn pack(sheet: Sheet<'_>, stages: &mut Stages, s: &mut [f64; 1024])
-    ensures { LivePacked sheet.entry.n sheet.entry.numbers.now stages.new.count stages.new.places s.new }
+pub fn pack(sheet: Sheet<'_>, s: &mut [f64; 1024]) -> Stages
+    ensures { LivePacked sheet.entry.n sheet.entry.numbers.now result.count result.places s.new }
 {
+    let mut stages = Stages::none();
     let mut live = [false; 32];
     let mut t = [0.0; 1024];
     live_stages(sheet, &mut live);
@@ -29,4 +30,5 @@ pub fn pack(sheet: Sheet<'_>, stages: &mut Stages, s: &mut [f64; 1024])
     loading::sizes(sheet, &mut t);
     loading::rates(sheet, &mut t);
     stages.pack(&t, s);
+    stages
 }

@@ -9,12 +9,31 @@ ghost use Rattle.out_places.specs.OutPlaces.{ValueHanded, HeadHanded};
 
 use answers::{Head, Refusal};
 
+// A refusal in the places for its row and column, by its number, whichever number a caller gives it.
+pub fn hand_refusal(
+    number: usize,
+    at_row: usize,
+    at_column: usize,
+    row: &mut usize,
+    column: &mut usize,
+) -> usize
+    ensures { (row.new ≡ at_row) × (column.new ≡ at_column) × (result ≡ number) }
+{
+    *row = at_row;
+    *column = at_column;
+    number
+}
+
 fn tell(refusal: Refusal, row: &mut usize, column: &mut usize) -> usize
     ensures { (row.new ≡ refusal.row) × (column.new ≡ refusal.column) × (result ≡ number refusal.question) }
 {
-    *row = refusal.row;
-    *column = refusal.column;
-    refusal.question.into()
+    hand_refusal(
+        refusal.question.into(),
+        refusal.row,
+        refusal.column,
+        row,
+        column,
+    )
 }
 
 // An allowance, a number of seconds, a length or a unit.

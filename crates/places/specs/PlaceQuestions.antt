@@ -14,8 +14,12 @@ unfoldable pub passes : ℕ → ℕ → ℕ → ℕ → ℕ → Float → Bool
 passes question reading n i j x = cond (eqb question 6) (finite x) (cond (eqb question 7) (sign_at reading n i j x) (large_enough x))
 
 -- A test of a number at its row and column, of every place, row by row, under a question's number.
-unfoldable pub ask_places : (ℕ → ℕ → Float → Bool) → ℕ → ℕ → ℕ → List Float → Asked
-ask_places good question reading n sheet = ask_rows (λ i j. good i j (place n sheet i j)) question n 0 (sheet_rows reading n)
+unfoldable pub search_places : (ℕ → ℕ → Float → Bool) → ℕ → ℕ → ℕ → List Float → Asked
+search_places good question reading n sheet = ask_rows (λ i j. good i j (place n sheet i j)) question n 0 (sheet_rows reading n)
+
+-- Of every place, row by row.
+unfoldable pub ask_places : ℕ → ℕ → ℕ → List Float → Asked
+ask_places question reading n sheet = search_places (passes question reading n) question reading n sheet
 
 -- What a closure computes (its results, by arguments) is that test.
 abbrev pub Computes : (ℕ → ℕ → Float → Bool → Type 0) → (ℕ → ℕ → Float → Bool) → Type 0

@@ -6,7 +6,7 @@ ghost use Rattle.definitions.specs.Sheet.{sheet_rows, place};
 ghost use Rattle.definitions.specs.Questions.{large_enough, question6, question7, question8};
 ghost use Rattle.answers.specs.Answers.{number};
 ghost use Rattle.answers.specs.Outcome.{ComesTo};
-ghost use Rattle.places.specs.PlaceQuestions.{sign_at, ask_places, Computes};
+ghost use Rattle.places.specs.PlaceQuestions.{sign_at, search_places, ask_places, Computes};
 
 use answers::{Question, Refusal};
 use shape::sheets::Whole;
@@ -43,14 +43,14 @@ fn number_in_row(i: usize, j: usize, whole: Whole<'_>) -> f64
     sheet.numbers[i * sheet.n + j]
 }
 
-// One question of every place, row by row, that of the weights last: the search stops at the first bad place.
-fn ask_places<F: Fn(usize, usize, f64) -> bool>(
+// A test of every place under a question, row by row, that of the weights last: the search stops at the first bad place.
+fn search<F: Fn(usize, usize, f64) -> bool>(
     question: Question,
     passes: F,
     whole: Whole<'_>,
 ) -> Result<(), Refusal>
     requires { F.IsAlwaysCallable passes }
-    ensures { let sheet = whole.entry.sheet in (good : ℕ → ℕ → Float → Bool) → Computes (F.post passes) good → ComesTo (ask_places good (number question) whole.entry.reading sheet.n sheet.numbers.now) result }
+    ensures { let sheet = whole.entry.sheet in (good : ℕ → ℕ → Float → Bool) → Computes (F.post passes) good → ComesTo (search_places good (number question) whole.entry.reading sheet.n sheet.numbers.now) result }
 {
     for i in 0..counts::rows(whole.reading, whole.sheet.n) {
         for j in 0..whole.sheet.n {
@@ -67,27 +67,38 @@ fn ask_places<F: Fn(usize, usize, f64) -> bool>(
     Ok(())
 }
 
+// Question 6, 7 or 8 of every place; any other question asks the sizes too, under its own number.
+pub fn ask_places(question: Question, whole: Whole<'_>) -> Result<(), Refusal>
+    ensures { let sheet = whole.entry.sheet in ComesTo (ask_places (number question) whole.entry.reading sheet.n sheet.numbers.now) result }
+{
+    match question {
+        Question::Finite => search(question, |_, _, x| rounding::is_finite(x), whole),
+        Question::Sign => search(
+            question,
+            |i, j, x| right_sign(whole.reading, whole.sheet.n, i, j, x),
+            whole,
+        ),
+        _ => search(question, |_, _, x| is_large_enough(x), whole),
+    }
+}
+
 // Question 6 of every place.
 pub fn ask_finite(whole: Whole<'_>) -> Result<(), Refusal>
     ensures { ComesTo (question6 whole.entry.reading whole.entry.sheet.n whole.entry.sheet.numbers.now) result }
 {
-    ask_places(Question::Finite, |_, _, x| rounding::is_finite(x), whole)
+    ask_places(Question::Finite, whole)
 }
 
 // Question 7.
 pub fn ask_signs(whole: Whole<'_>) -> Result<(), Refusal>
     ensures { ComesTo (question7 whole.entry.reading whole.entry.sheet.n whole.entry.sheet.numbers.now) result }
 {
-    ask_places(
-        Question::Sign,
-        |i, j, x| right_sign(whole.reading, whole.sheet.n, i, j, x),
-        whole,
-    )
+    ask_places(Question::Sign, whole)
 }
 
 // Question 8.
 pub fn ask_sizes(whole: Whole<'_>) -> Result<(), Refusal>
     ensures { ComesTo (question8 whole.entry.reading whole.entry.sheet.n whole.entry.sheet.numbers.now) result }
 {
-    ask_places(Question::Size, |_, _, x| is_large_enough(x), whole)
+    ask_places(Question::Size, whole)
 }

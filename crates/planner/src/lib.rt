@@ -17,7 +17,8 @@ fn table_of_sheet(sheet: Lent<'_>, answer: &mut [f64]) -> Result<usize, Refusal>
 {
     let mut x = [0.0; 1024];
     let whole = Whole::new(sheet.reading, sheet.n, sheet.numbers);
-    if !readings::steps(whole, &mut x) {
+    let told = readings::steps(whole, &mut x);
+    if !told {
         return Err(Question::InRange.into());
     }
     writing::write(sheet.n, &x, answer);

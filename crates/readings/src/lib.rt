@@ -8,7 +8,6 @@ ghost use Rattle.elimination.specs.Quotients.{QuotientTable};
 ghost use Rattle.loading.specs.LoadedTable.{with_rates};
 ghost use Rattle.readings.specs.Stepped.{Stepped};
 
-use compact::Stages;
 use shape::sheets::{Sheet, Whole};
 
 // Every stage: the sizes and leaving rates go through the elimination as they are, with the weights.
@@ -28,10 +27,9 @@ fn live_stages(sheet: Sheet<'_>, x: &mut [f64; 1024]) -> bool
     requires { ZeroTable x.old }
     ensures { Stepped 1 sheet.entry.n sheet.entry.numbers.now result x.new }
 {
-    let mut stages = Stages::none();
     let mut s = [0.0; 1024];
     let mut y = [0.0; 1024];
-    live::pack(sheet, &mut stages, &mut s);
+    let stages = live::pack(sheet, &mut s);
     let none = [0.0; 0];
     if !elimination::solve(stages.count, &none, &mut s, &mut y) {
         return false;

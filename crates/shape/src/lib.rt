@@ -4,7 +4,7 @@
 // with what they leave known of it.
 #![tactic(auto)]
 
-ghost use Rattle.std.specs.Prelude.{◌*◌, length};
+ghost use Rattle.std.specs.Prelude.{◌*◌};
 ghost use Rattle.definitions.specs.Sheet.{sheet_numbers};
 ghost use Rattle.definitions.specs.Questions.{◌then◌, shape_questions, question4, question5};
 ghost use Rattle.definitions.specs.Saving.{save_questions};
@@ -13,7 +13,7 @@ ghost use Rattle.definitions.specs.Prices.{price_shape};
 ghost use Rattle.answers.specs.Outcome.{CallComesTo};
 
 use answers::Question;
-use sheets::Lent;
+use sheets::Shape;
 
 pub mod sheets;
 
@@ -37,11 +37,10 @@ fn ask_shape(reading: usize, n: usize, e: i64, held: usize) -> Result<(), Questi
 }
 
 // Questions 1 to 4, those of the whole table: `room` is the length of the answer area.
-pub fn ask_table(sheet: Lent<'_>, room: usize) -> Result<(), Question>
-    ensures { let sheet = sheet.entry in
-        CallComesTo (shape_questions sheet.reading sheet.n sheet.e (length sheet.numbers.now) then question4 (sheet.n * sheet.n) room) result }
+pub fn ask_table(sheet: Shape, room: usize) -> Result<(), Question>
+    ensures { CallComesTo (shape_questions sheet.reading sheet.n sheet.e sheet.held then question4 (sheet.n * sheet.n) room) result }
 {
-    ask_shape(sheet.reading, sheet.n, sheet.e, sheet.numbers.len())?;
+    ask_shape(sheet.reading, sheet.n, sheet.e, sheet.held)?;
     if room < sheet.n * sheet.n {
         return Err(Question::Room);
     }
@@ -49,11 +48,10 @@ pub fn ask_table(sheet: Lent<'_>, room: usize) -> Result<(), Question>
 }
 
 // The same for moving, whose second area takes as many numbers as the sheet has.
-pub fn ask_move(sheet: Lent<'_>, room: usize) -> Result<(), Question>
-    ensures { let sheet = sheet.entry in
-        CallComesTo (shape_questions sheet.reading sheet.n sheet.e (length sheet.numbers.now) then question4 (sheet_numbers sheet.reading sheet.n) room) result }
+pub fn ask_move(sheet: Shape, room: usize) -> Result<(), Question>
+    ensures { CallComesTo (shape_questions sheet.reading sheet.n sheet.e sheet.held then question4 (sheet_numbers sheet.reading sheet.n) room) result }
 {
-    let held = sheet.numbers.len();
+    let held = sheet.held;
     ask_shape(sheet.reading, sheet.n, sheet.e, held)?;
     if room < held {
         return Err(Question::Room);
@@ -73,11 +71,10 @@ pub fn ask_save(reading: usize, n: usize, e: i64, held: usize, room: usize) -> R
 }
 
 // Questions 1, 2, 3 and 5, those of one entry: row i and column j, counted from 1.
-pub fn ask_entry(sheet: Lent<'_>, i: usize, j: usize) -> Result<(), Question>
-    ensures { let sheet = sheet.entry in
-        CallComesTo (shape_questions sheet.reading sheet.n sheet.e (length sheet.numbers.now) then question5 sheet.n i j) result }
+pub fn ask_entry(sheet: Shape, i: usize, j: usize) -> Result<(), Question>
+    ensures { CallComesTo (shape_questions sheet.reading sheet.n sheet.e sheet.held then question5 sheet.n i j) result }
 {
-    ask_shape(sheet.reading, sheet.n, sheet.e, sheet.numbers.len())?;
+    ask_shape(sheet.reading, sheet.n, sheet.e, sheet.held)?;
     if !((1 <= i) & (i <= sheet.n) & ((1 <= j) & (j <= sheet.n))) {
         return Err(Question::StageAsked);
     }
@@ -86,14 +83,13 @@ pub fn ask_entry(sheet: Lent<'_>, i: usize, j: usize) -> Result<(), Question>
 
 // Questions 1 to 5 of one column, of reading 1 alone: `room` is the length of the answer area, which takes n
 // numbers, and the stage is counted from 1.
-pub fn ask_column(sheet: Lent<'_>, room: usize, stage: usize) -> Result<(), Question>
-    ensures { let sheet = sheet.entry in
-        CallComesTo (column_shape sheet.reading sheet.n sheet.e (length sheet.numbers.now) room stage) result }
+pub fn ask_column(sheet: Shape, room: usize, stage: usize) -> Result<(), Question>
+    ensures { CallComesTo (column_shape sheet.reading sheet.n sheet.e sheet.held room stage) result }
 {
     if sheet.reading != 1 {
         return Err(Question::Reading);
     }
-    ask_shape(1, sheet.n, sheet.e, sheet.numbers.len())?;
+    ask_shape(1, sheet.n, sheet.e, sheet.held)?;
     if room < sheet.n {
         return Err(Question::Room);
     }
@@ -105,11 +101,10 @@ pub fn ask_column(sheet: Lent<'_>, room: usize, stage: usize) -> Result<(), Ques
 
 // Questions 1 to 4 and 18 of prices: `given` is how many there are, and `room` the length of the answer area, which
 // takes n numbers.
-pub fn ask_prices(sheet: Lent<'_>, given: usize, room: usize) -> Result<(), Question>
-    ensures { let sheet = sheet.entry in
-        CallComesTo (price_shape sheet.reading sheet.n sheet.e (length sheet.numbers.now) given room) result }
+pub fn ask_prices(sheet: Shape, given: usize, room: usize) -> Result<(), Question>
+    ensures { CallComesTo (price_shape sheet.reading sheet.n sheet.e sheet.held given room) result }
 {
-    ask_shape(sheet.reading, sheet.n, sheet.e, sheet.numbers.len())?;
+    ask_shape(sheet.reading, sheet.n, sheet.e, sheet.held)?;
     if sheet.n > room {
         return Err(Question::Room);
     }

@@ -1,17 +1,40 @@
 // A sheet as it is lent, and with its shape, as questions 2 and 3 leave it.
 
-ghost use Rattle.std.specs.Prelude.{◌*◌, ◌<◌, ◌≡◌, take, drop};
+ghost use Rattle.std.specs.Prelude.{◌*◌, ◌<◌, ◌≡◌, length, take, drop};
 ghost use Rattle.definitions.specs.Sheet.{place};
 ghost use Rattle.definitions.specs.Accuracy.{Binary64};
 ghost use Rattle.shape.specs.Square.{Square, WholeSheet};
 
-// A sheet before any question: its reading, number of stages and unit, 2^e seconds, and its numbers.
+// What the questions of a sheet's shape look at, wherever its numbers stand: its reading, number of stages and unit, 2^e
+// seconds, and how many numbers it has.
+#[derive(Clone, Copy)]
+pub struct Shape {
+    pub reading: usize,
+    pub n: usize,
+    pub e: i64,
+    pub held: usize,
+}
+
+// A sheet before any question: the same with its numbers.
 #[derive(Clone, Copy)]
 pub struct Lent<'a> {
     pub reading: usize,
     pub n: usize,
     pub e: i64,
     pub numbers: &'a [f64],
+}
+
+impl Lent<'_> {
+    pub fn shape(self) -> Shape
+        ensures { (result.reading ≡ self.entry.reading) × (result.n ≡ self.entry.n) × (result.e ≡ self.entry.e) × (result.held ≡ length self.entry.numbers.now) }
+    {
+        Shape {
+            reading: self.reading,
+            n: self.n,
+            e: self.e,
+            held: self.numbers.len(),
+        }
+    }
 }
 
 // At most 32 stages, and at least a number for each pair of them.

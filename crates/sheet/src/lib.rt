@@ -43,7 +43,7 @@ fn ask_numbers(nine: bool, whole: Whole<'_>) -> Result<(), Refusal>
 pub fn table_input(sheet: Lent<'_>, room: usize) -> Result<(), Refusal>
     ensures { let sheet = sheet.entry in ComesTo (table_input sheet.reading sheet.n sheet.e sheet.numbers.now room) result }
 {
-    shape::ask_table(sheet, room)?;
+    shape::ask_table(sheet.shape(), room)?;
     ask_numbers(true, Whole::new(sheet.reading, sheet.n, sheet.numbers))
 }
 
@@ -51,7 +51,7 @@ pub fn table_input(sheet: Lent<'_>, room: usize) -> Result<(), Refusal>
 pub fn column_input(sheet: Lent<'_>, room: usize, stage: usize) -> Result<(), Refusal>
     ensures { let sheet = sheet.entry in ComesTo (column_input sheet.reading sheet.n sheet.e sheet.numbers.now room stage) result }
 {
-    shape::ask_column(sheet, room, stage)?;
+    shape::ask_column(sheet.shape(), room, stage)?;
     ask_numbers(true, Whole::new(1, sheet.n, sheet.numbers))
 }
 
@@ -59,7 +59,7 @@ pub fn column_input(sheet: Lent<'_>, room: usize, stage: usize) -> Result<(), Re
 pub fn entry_input(sheet: Lent<'_>, i: usize, j: usize) -> Result<(), Refusal>
     ensures { let sheet = sheet.entry in ComesTo (entry_input sheet.reading sheet.n sheet.e sheet.numbers.now i j) result }
 {
-    shape::ask_entry(sheet, i, j)?;
+    shape::ask_entry(sheet.shape(), i, j)?;
     ask_numbers(true, Whole::new(sheet.reading, sheet.n, sheet.numbers))
 }
 
@@ -67,7 +67,7 @@ pub fn entry_input(sheet: Lent<'_>, i: usize, j: usize) -> Result<(), Refusal>
 pub fn price_input(sheet: Lent<'_>, given: usize, room: usize) -> Result<(), Refusal>
     ensures { let sheet = sheet.entry in ComesTo (price_input sheet.reading sheet.n sheet.e sheet.numbers.now given room) result }
 {
-    shape::ask_prices(sheet, given, room)?;
+    shape::ask_prices(sheet.shape(), given, room)?;
     ask_numbers(true, Whole::new(sheet.reading, sheet.n, sheet.numbers))
 }
 
@@ -75,6 +75,6 @@ pub fn price_input(sheet: Lent<'_>, given: usize, room: usize) -> Result<(), Ref
 pub fn move_input(sheet: Lent<'_>, area: usize) -> Result<(), Refusal>
     ensures { let sheet = sheet.entry in ComesTo (move_input sheet.reading sheet.n sheet.e sheet.numbers.now area) result }
 {
-    shape::ask_move(sheet, area)?;
+    shape::ask_move(sheet.shape(), area)?;
     ask_numbers(false, Whole::new(sheet.reading, sheet.n, sheet.numbers))
 }

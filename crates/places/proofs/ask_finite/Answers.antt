@@ -1,9 +1,7 @@
 -- `places::ask_finite` meets its contract. Assumes nothing.
-use Rattle.std.proofs.Common.{rules}
 use Rattle.answers.proofs.Outcome.{in_other_words}
 use Rattle.places.proofs.PlaceQuestions.{finite_places}
-use Rattle.definitions.specs.Numbers.{finite}
 use Rattle.places.proofs.ask_finite.Goals as goal
 
 pub returns : goal.returns
-returns c = in_other_words (finite_places _ _ _) (c.ask_places.ensures (λ i j x. finite x) (search rules))
+returns c = in_other_words (finite_places _ _ _) c.ask_places.ensures

@@ -1,9 +1,7 @@
 -- `places::ask_signs` meets its contract. Assumes nothing.
-use Rattle.std.proofs.Common.{rules}
 use Rattle.answers.proofs.Outcome.{in_other_words}
 use Rattle.places.proofs.PlaceQuestions.{signed_places}
-use Rattle.places.specs.PlaceQuestions.{sign_at}
 use Rattle.places.proofs.ask_signs.Goals as goal
 
 pub returns : goal.returns
-returns c = in_other_words (signed_places _ _ _) (c.ask_places.ensures (sign_at c.args.whole.reading c.args.whole.sheet.n) (search rules))
+returns c = in_other_words (signed_places _ _ _) c.ask_places.ensures

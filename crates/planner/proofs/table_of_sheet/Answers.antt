@@ -27,14 +27,14 @@ allowance_of-requires c = (input (goal.at.allowance_of-requires c).Start).0.few
 
 pub returns : goal.returns
 returns c =
-    table_given c.args.sheet.reading c.args.sheet.n c.args.sheet.e c.args.sheet.numbers.now c.args.answer.now c.requires (rw (c.new-whole.ensures.0, c.new-whole.ensures.1, c.new-whole.ensures.2) at c.steps.ensures) c.new-whole.ensures.3 c.if-not-steps.false c.write.ensures c.allowance_of.ensures
+    table_given c.args.sheet.reading c.args.sheet.n c.args.sheet.e c.args.sheet.numbers.now c.args.answer.now c.requires (rw (c.new-whole.ensures.0, c.new-whole.ensures.1, c.new-whole.ensures.2) at c.steps-told.ensures) c.new-whole.ensures.3 c.if-not-told.false c.write.ensures c.allowance_of.ensures
 
-pub returns-then-not-steps : goal.returns-then-not-steps
-returns-then-not-steps c =
-    table_out_of_range c.args.sheet.reading c.args.sheet.n c.args.sheet.e c.args.sheet.numbers.now c.args.answer.now c.requires (rw (c.new-whole.ensures.0, c.new-whole.ensures.1, c.new-whole.ensures.2) at c.steps.ensures) (ap (λ r. Err r) c.into.ensures) (search rules)
+pub returns-then-not-told : goal.returns-then-not-told
+returns-then-not-told c =
+    table_out_of_range c.args.sheet.reading c.args.sheet.n c.args.sheet.e c.args.sheet.numbers.now c.args.answer.now c.requires (rw (c.new-whole.ensures.0, c.new-whole.ensures.1, c.new-whole.ensures.2) at c.steps-told.ensures) (ap (λ r. Err r) c.into.ensures) (search rules)
 
-pub steps-requires : goal.steps-requires
-steps-requires c = new_table zero_word
+pub steps-told-requires : goal.steps-told-requires
+steps-told-requires c = new_table zero_word
 
 pub new-whole-requires : goal.new-whole-requires
 new-whole-requires c = (input (goal.at.new-whole-requires c).Start).0

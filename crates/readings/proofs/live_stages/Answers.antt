@@ -12,14 +12,14 @@ use Rattle.readings.proofs.live_stages.Goals as goal
 
 pub solve-requires : goal.solve-requires
 solve-requires c =
-    (c.pack.new.stages.few, λ l. absurd (omega arith), new_table zero_word)
+    (c.pack-stages.result.few, λ l. absurd (omega arith), new_table zero_word)
 
 pub returns-then-not-solve : goal.returns-then-not-solve
 unfolding weights_in
 returns-then-not-solve c =
-    live_fails c.pack.ensures c.solve.ensures (not-true c.solve.result (ap not c.if-not-solve.true)) c.requires.long
+    live_fails c.pack-stages.ensures c.solve.ensures (not-true c.solve.result (ap not c.if-not-solve.true)) c.requires.long
 
 pub returns : goal.returns
 unfolding weights_in
 returns c =
-    live_stepped c.pack.ensures c.solve.ensures (not-false c.solve.result (ap not c.if-not-solve.false)) (table c.args.x.now) c.requires.is c.unpack.ensures
+    live_stepped c.pack-stages.ensures c.solve.ensures (not-false c.solve.result (ap not c.if-not-solve.false)) (table c.args.x.now) c.requires.is c.unpack.ensures

@@ -1,6 +1,5 @@
 -- `shape::ask_entry` meets its contract. Assumes nothing.
 use Rattle.std.proofs.Common.{rules}
-use lib.ListN.{length}
 use mir.Syntax.{w64}
 use mir.ValLaws.{to_z-of_z}
 use Rattle.answers.proofs.Outcome.{Passes, goes_on}
@@ -12,7 +11,7 @@ use Rattle.shape.proofs.ask_entry.Goals as goal
 use Rattle.shape.proofs.ask_entry.Goals.{In_ok-ask_shape}
 
 -- The sheet holds e by its bits, which mean e.
-asked : (c : goal.In_ok-ask_shape) → Passes (shape_questions c.args.sheet.reading c.args.sheet.n c.args.sheet.e (length c.args.sheet.numbers.now))
+asked : (c : goal.In_ok-ask_shape) → Passes (shape_questions c.args.sheet.reading c.args.sheet.n c.args.sheet.e c.args.sheet.held)
 asked c = rw (to_z-of_z w64 c.args.sheet.e (search rules)) at c.in_ok-ask_shape.ensures
 
 pub returns-then-not-i-sheet : goal.returns-then-not-i-sheet

@@ -1,6 +1,5 @@
 -- `shape::ask_move` meets its contract: by then the sheet holds as many numbers as it should. Assumes nothing.
 use Rattle.std.proofs.Common.{rules}
-use lib.ListN.{length}
 use Prim.Native.Nat.{◌≤◌}
 use native.Mathlib.Omega.{arith}
 use mir.Syntax.{w64}
@@ -12,7 +11,7 @@ use Rattle.shape.proofs.ask_move.Goals as goal
 use Rattle.shape.proofs.ask_move.Goals.{In_ok-ask_shape}
 
 -- The sheet holds e by its bits, which mean e.
-asked : (c : goal.In_ok-ask_shape) → Passes (shape_questions c.args.sheet.reading c.args.sheet.n c.args.sheet.e (length c.args.sheet.numbers.now))
+asked : (c : goal.In_ok-ask_shape) → Passes (shape_questions c.args.sheet.reading c.args.sheet.n c.args.sheet.e c.args.sheet.held)
 asked c = rw (to_z-of_z w64 c.args.sheet.e (search rules)) at c.in_ok-ask_shape.ensures
 
 pub returns-then-room-held : goal.returns-then-room-held
@@ -22,6 +21,6 @@ returns-then-room-held c =
 
 pub returns : goal.returns
 returns c =
-    let enough : length c.args.sheet.numbers.now ≤ c.args.room = omega arith in
+    let enough : c.args.sheet.held ≤ c.args.room = omega arith in
     let numbers = (sized _ _ _ _ (passed (asked (goal.at.returns c).In_ok-ask_shape))).numbers in
     goes_on (asked (goal.at.returns c).In_ok-ask_shape) (good_room _ _ (rw numbers at enough))

@@ -1,5 +1,4 @@
 -- `shape::ask_prices` meets its contract. Assumes nothing.
-use lib.ListN.{length}
 use Rattle.std.proofs.Common.{rules}
 use mir.Syntax.{w64}
 use mir.ValLaws.{to_z-of_z}
@@ -11,7 +10,7 @@ use Rattle.shape.proofs.ask_prices.Goals as goal
 use Rattle.shape.proofs.ask_prices.Goals.{In_ok-ask_shape}
 
 -- The sheet holds e by its bits, which mean e.
-asked : (c : goal.In_ok-ask_shape) → Passes (shape_questions c.args.sheet.reading c.args.sheet.n c.args.sheet.e (length c.args.sheet.numbers.now))
+asked : (c : goal.In_ok-ask_shape) → Passes (shape_questions c.args.sheet.reading c.args.sheet.n c.args.sheet.e c.args.sheet.held)
 asked c = rw (to_z-of_z w64 c.args.sheet.e (search rules)) at c.in_ok-ask_shape.ensures
 
 pub returns-then-sheet-room : goal.returns-then-sheet-room
