@@ -4,7 +4,7 @@
 ghost use Rattle.std.specs.Prelude.{[], ◌∷◌};
 ghost use Rattle.buffer.specs.Pasted.{Room, Written};
 
-// The place is that of the next byte.
+// The place is that of the next byte. It holds a `&mut`, so it is not `Copy`.
 #[derive(Drop)]
 pub struct Writer<'a> {
     pub out: &'a mut [u8],

@@ -10,7 +10,7 @@ ghost use Rattle.compact.specs.Compact.{Packed, UnpackedRow, Unpacked, UnpackedV
 
 use tables::{row, vector};
 
-// The stage at place q of the list. This function and the next two ask nothing of what stands in the places.
+// The stage at place q of the list. `stage`, `find` and `list` ask nothing of what stands in the places.
 pub fn stage(q: usize, places: &[usize; 32]) -> usize
     requires { q < 32 }
     ensures { result ≡ stage_at places.now q }
@@ -56,7 +56,8 @@ pub fn list(n: usize, mask: &[bool; 32], places: &mut [usize; 32]) -> usize
     r
 }
 
-// A list of different stages at the front of its places; the later places are left open.
+// A list of different stages at the front of its places; the later places are left open. It is not `Copy`, so that no call
+// copies it unseen.
 #[derive(Drop)]
 pub struct Stages {
     pub places: [usize; 32],

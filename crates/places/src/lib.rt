@@ -6,7 +6,7 @@ ghost use Rattle.definitions.specs.Sheet.{sheet_rows, place};
 ghost use Rattle.definitions.specs.Questions.{large_enough, question6, question7, question8};
 ghost use Rattle.answers.specs.Answers.{number};
 ghost use Rattle.answers.specs.Outcome.{ComesTo};
-ghost use Rattle.places.specs.PlaceQuestions.{sign_at, search_places, ask_places, Computes};
+ghost use Rattle.places.specs.PlaceQuestions.{sign_at, search_places, ask_places, at_place, Computes};
 
 use answers::{Question, Refusal};
 use shape::sheets::Whole;
@@ -43,42 +43,50 @@ fn number_in_row(i: usize, j: usize, whole: Whole<'_>) -> f64
     sheet.numbers[i * sheet.n + j]
 }
 
-// A test of every place under a question, row by row, that of the weights last: the search stops at the first bad place.
-fn search<F: Fn(usize, usize, f64) -> bool>(
-    question: Question,
-    passes: F,
-    whole: Whole<'_>,
-) -> Result<(), Refusal>
+// The first place whose number does not pass a test, its row and column counted from 1: row by row, that of the weights
+// last.
+fn search<F: Fn(usize, usize, f64) -> bool>(passes: F, whole: Whole<'_>) -> Option<(usize, usize)>
     requires { F.IsAlwaysCallable passes }
-    ensures { let sheet = whole.entry.sheet in (good : ℕ → ℕ → Float → Bool) → Computes (F.post passes) good → ComesTo (search_places good (number question) whole.entry.reading sheet.n sheet.numbers.now) result }
+    ensures { let sheet = whole.entry.sheet in (question : ℕ) (good : ℕ → ℕ → Float → Bool) → Computes (F.post passes) good → search_places good question whole.entry.reading sheet.n sheet.numbers.now ≡ at_place question result }
 {
     for i in 0..counts::rows(whole.reading, whole.sheet.n) {
         for j in 0..whole.sheet.n {
             let x = number_in_row(i, j, whole);
             if !passes(i, j, x) {
-                return Err(Refusal {
-                    question,
-                    row: i + 1,
-                    column: j + 1,
-                });
+                return Some((i + 1, j + 1));
             }
         }
     }
-    Ok(())
+    None
 }
 
-// Question 6, 7 or 8 of every place; any other question asks the sizes too, under its own number.
+// The first bad place under a question's number, whichever a caller gives: 6, 7, and any other as 8.
+pub fn bad_place(question: usize, whole: Whole<'_>) -> Option<(usize, usize)>
+    ensures { let sheet = whole.entry.sheet in ask_places question whole.entry.reading sheet.n sheet.numbers.now ≡ at_place question result }
+{
+    if question == 6 {
+        return search(|_, _, x| rounding::is_finite(x), whole);
+    }
+    if question == 7 {
+        return search(
+            |i, j, x| right_sign(whole.reading, whole.sheet.n, i, j, x),
+            whole,
+        );
+    }
+    search(|_, _, x| is_large_enough(x), whole)
+}
+
+// The same as a question's answer.
 pub fn ask_places(question: Question, whole: Whole<'_>) -> Result<(), Refusal>
     ensures { let sheet = whole.entry.sheet in ComesTo (ask_places (number question) whole.entry.reading sheet.n sheet.numbers.now) result }
 {
-    match question {
-        Question::Finite => search(question, |_, _, x| rounding::is_finite(x), whole),
-        Question::Sign => search(
+    match bad_place(question.into(), whole) {
+        Some((row, column)) => Err(Refusal {
             question,
-            |i, j, x| right_sign(whole.reading, whole.sheet.n, i, j, x),
-            whole,
-        ),
-        _ => search(question, |_, _, x| is_large_enough(x), whole),
+            row,
+            column,
+        }),
+        None => Ok(()),
     }
 }
 

@@ -19,7 +19,7 @@ use Rattle.steps.proofs.QuestionLaws.{rows_pass}
 use Rattle.counts.proofs.Counts.{rows_few}
 use Rattle.shape.specs.Square.{Square, WholeSheet}
 use Rattle.shape.proofs.Square.{place_inside, row_inside}
-use Rattle.places.specs.PlaceQuestions.{passes, search_places, ask_places}
+use Rattle.places.specs.PlaceQuestions.{passes, ask_places}
 use Rattle.places.proofs.PlaceQuestions.{in_order_lem}
 use Rattle.quick.specs.QuickPass.{PassesOff, DiagonalPasses, StretchPasses, SizesPass, WeightsPass}
 
@@ -80,7 +80,7 @@ module _ (reading n : ℕ) (sheet : List Float) (on : DiagonalPasses reading n s
       (λ l. stage-passes question i j l hj)
 
   places_pass : (question : ℕ) → ask_places question reading n sheet ≡ pass
-  unfolding ask_places search_places
+  unfolding ask_places
   places_pass question = rows_pass (λ i j. passes question reading n i j (place n sheet i j)) question n (sheet_rows reading n) (place-passes question)
 
   pub sheet_passes : place_questions reading n sheet ≡ pass

@@ -7,7 +7,7 @@ ghost use Rattle.buffer.specs.Pasted.{AtStart};
 
 use buffer::Writer;
 
-// The line, at the start of `out`; later bytes stay as they were. Returns its length.
+// The line, whichever number a caller gives it, at the start of `out`; later bytes stay as they were. Returns its length.
 pub fn refused_text(number: usize, row: usize, column: usize, out: &mut [u8]) -> usize
     requires { 32768 ≤ length out.old }
     ensures { AtStart (refused_line number row column) out.old out.new result }

@@ -27,7 +27,7 @@ allowance_of-requires c = (input (goal.at.allowance_of-requires c).Start).0.few
 
 pub returns : goal.returns
 returns c =
-    table_given c.args.sheet.reading c.args.sheet.n c.args.sheet.e c.args.sheet.numbers.now c.args.answer.now c.requires (rw (c.new-whole.ensures.0, c.new-whole.ensures.1, c.new-whole.ensures.2) at c.steps-told.ensures) c.new-whole.ensures.3 c.if-not-told.false c.write.ensures c.allowance_of.ensures
+    table_given c.args.sheet.reading c.args.sheet.n c.args.sheet.e c.args.sheet.numbers.now c.args.answer.now c.requires (rw (c.new-whole.ensures.0, c.new-whole.ensures.1, c.new-whole.ensures.2) at c.steps-told.ensures) c.new-whole.ensures.3 (search rules) c.write.ensures c.allowance_of.ensures
 
 pub returns-then-not-told : goal.returns-then-not-told
 returns-then-not-told c =
