@@ -1,4 +1,4 @@
-// A sheet as it is lent, and with its shape, as questions 2 and 3 leave it.
+// The shape of a sheet, a sheet as it is lent, and one of which questions 2 and 3 leave something known.
 
 ghost use Rattle.std.specs.Prelude.{◌*◌, ◌<◌, ◌≡◌, length, take, drop};
 ghost use Rattle.definitions.specs.Sheet.{place};
@@ -25,8 +25,9 @@ pub struct Lent<'a> {
 }
 
 impl Lent<'_> {
+    // Its shape, for questions that look at no number.
     pub fn shape(self) -> Shape
-        ensures { (result.reading ≡ self.entry.reading) × (result.n ≡ self.entry.n) × (result.e ≡ self.entry.e) × (result.held ≡ length self.entry.numbers.now) }
+        ensures { let sheet = self.entry in result ≡ record { reading = sheet.reading; n = sheet.n; e = sheet.e; held = length sheet.numbers.now } }
     {
         Shape {
             reading: self.reading,

@@ -1,12 +1,12 @@
 -- The questions in the order of document 01: those of a call's shape, then those of its numbers.
-use mathlib.Core.Path.{◌≡◌, ap}
+use mathlib.Core.Path.{◌≡◌}
 use mathlib.Core.List.{List}
 use Prim.Native.Nat.{ℕ, ◌*◌}
 use lib.IntN.{ℤ}
 use lib.ListN.{length}
 use lib.Ieee.{Float}
 use Rattle.definitions.specs.Sheet.{sheet_numbers}
-use Rattle.definitions.specs.Questions.{Asked, ◌then◌, shape_questions, question4, question5, place_questions, number_questions, table_input, entry_input}
+use Rattle.definitions.specs.Questions.{◌then◌, shape_questions, question4, question5, place_questions, number_questions, table_input, entry_input}
 use Rattle.definitions.specs.Moving.{move_input}
 use Rattle.steps.proofs.QuestionLaws.{then_assoc}
 
@@ -22,7 +22,3 @@ module _ (reading n : ℕ) (e : ℤ) (sheet : List Float) where
   pub entry_in_order : (i j : ℕ) → ((shape_questions reading n e (length sheet) then question5 n i j) then number_questions reading n sheet) ≡ entry_input reading n e sheet i j
   unfolding entry_input
   entry_in_order i j = then_assoc (shape_questions reading n e (length sheet)) (question5 n i j) (number_questions reading n sheet)
-
--- The questions of a shape look at how many numbers there are, and not at the numbers.
-pub by_count : (reading n : ℕ) (e : ℤ) (rest : Asked) {held count : ℕ} → held ≡ count → (shape_questions reading n e held then rest) ≡ (shape_questions reading n e count then rest)
-by_count reading n e rest is = ap (λ held. shape_questions reading n e held then rest) is

@@ -6,11 +6,11 @@ use Rattle.sheet.proofs.column_input.Goals as goal
 
 pub returns : goal.returns
 unfolding column_input
-returns c = goes_on (rw (c.shape.ensures.0, c.shape.ensures.1, c.shape.ensures.2, c.shape.ensures.3) at c.in_ok-ask_column.ensures) (rw (c.new.ensures.0, c.new.ensures.1, c.new.ensures.2) at c.ask_numbers.ensures)
+returns c = goes_on (rw c.shape.ensures at c.in_ok-ask_column.ensures) (rw (c.new.ensures.0, c.new.ensures.1, c.new.ensures.2) at c.ask_numbers.ensures)
 
 pub new-requires : goal.new-requires
-new-requires c = column_square _ _ _ _ _ _ (passed (rw (c.shape.ensures.0, c.shape.ensures.1, c.shape.ensures.2, c.shape.ensures.3) at c.in_ok-ask_column.ensures))
+new-requires c = column_square _ _ _ _ _ _ (passed (rw c.shape.ensures at c.in_ok-ask_column.ensures))
 
 pub returns-in_err-ask_column : goal.returns-in_err-ask_column
 unfolding column_input
-returns-in_err-ask_column c = handed_on _ c.from_residual.ensures.1 (rw (c.shape.ensures.0, c.shape.ensures.1, c.shape.ensures.2, c.shape.ensures.3) at c.in_err-ask_column.ensures)
+returns-in_err-ask_column c = handed_on _ c.from_residual.ensures.1 (rw c.shape.ensures at c.in_err-ask_column.ensures)
